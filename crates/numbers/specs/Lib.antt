@@ -1,0 +1,4 @@
+pub mod Algebra
+pub mod Coprime
+pub mod Below
+pub mod Sums
