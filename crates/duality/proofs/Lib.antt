@@ -1,0 +1,6 @@
+pub mod LeafLaws
+pub mod FaultLaws
+pub mod TreeLaws
+pub mod ChoiceLaws
+pub mod WalkLaws
+pub mod PricedLaws

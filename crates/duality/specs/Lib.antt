@@ -1,0 +1,5 @@
+pub mod Packing
+pub mod Leaf
+pub mod Tree
+pub mod Walk
+pub mod Sums
