@@ -3,7 +3,9 @@ use Rattle.std.proofs.Common.{ℕ, ◌≡◌, ◌+◌, ◌-◌, ◌*◌, ◌/◌
 use Rattle.std.specs.Prelude.{◌==◌}
 use Rattle.std.proofs.lemmas.List.{length_push, get_or_append_left, get_or_push}
 use Rattle.std.proofs.lemmas.Bool.{cases_eq, cases_Bool, eqb-true, eqb-false, eq-eqb, true≢false}
-use Rattle.std.proofs.Math.Nat.{pow-suc}
+use Rattle.std.specs.Int.{bit_at}
+use Rattle.std.proofs.lemmas.Nat.Bits.{bit_at_lowest, bit_at-suc}
+use Rattle.std.proofs.Math.Nat.{pow-suc, pow-le-pow_right}
 use Rattle.problem_core.specs.Courses.{passing}
 use Rattle.meeting_patterns.specs.Pattern.{has_bit}
 
@@ -70,42 +72,10 @@ least_bit (suc k) m s l = elim (cases_eq (m % 2) 1) [
   | inr even ↦ let rest = least_bit k (m / 2) (omega arith) (omega (arith, l, pow_two k)) in (suc rest.0, omega (arith, rest.1), rest.2)
 ]
 
--- ---- the j-th of the numbers that pass
+-- the bit as the standard library says it
+pub has_bit-is : (n j : ℕ) → (bit_at n j == 1) ≡ has_bit n j
+has_bit-is n zero = ap (λ x. x == 1) (bit_at_lowest n)
+has_bit-is n (suc j) = ap (λ x. x == 1) (bit_at-suc n j) ∙ has_bit-is (n / 2) j
 
-pub record IsNth (test : ℕ → Bool) (n j e : ℕ) : Type 0 where
-  pub below : e < n
-  pub passes : test e ≡ true
-  pub place : length (passing test e) ≡ j
-
-pub nth_is : (test : ℕ → Bool) (n j : ℕ) → j < length (passing test n) → IsNth test n j (get_or (passing test n) j 0)
-nth_is test zero j l = absurd (omega arith)
-nth_is test (suc n) j l = elim (cases_Bool (test n)) [
-  | inr miss ↦ let rest = nth_is test n j (rw miss at l) in rw miss (record { below = omega (arith, rest.below); passes = rest.passes; place = rest.place })
-  | inl hit ↦
-      let l' : j < length (passing test n ++ n ∷ []) = rw hit at l in
-      elim (cases_eq j (length (passing test n))) [
-        | inl last ↦
-            let e : get_or (passing test n ++ n ∷ []) j 0 ≡ n = get_or_push (passing test n) n 0 j (sym last) in
-            rw (hit, e) (record { below = omega arith; passes = hit; place = sym last })
-        | inr before ↦
-            let m : j < length (passing test n) = omega (arith, l', length_push (passing test n) n) in
-            let rest = nth_is test n j m in
-            let e : get_or (passing test n ++ n ∷ []) j 0 ≡ get_or (passing test n) j 0 = get_or_append_left (passing test n) (n ∷ []) 0 j m in
-            rw (hit, e) (record { below = omega (arith, rest.below); passes = rest.passes; place = rest.place })
-      ]
-]
-
--- a number that passes stands at its place
-pub at_place : (test : ℕ → Bool) (n e : ℕ) → e < n → test e ≡ true → (length (passing test e) < length (passing test n)) × (get_or (passing test n) (length (passing test e)) 0 ≡ e)
-at_place test zero e l h = absurd (omega arith)
-at_place test (suc n) e l h = elim (cases_eq e n) [
-  | inl same ↦
-      let hit : test n ≡ true = ap test (sym same) ∙ h in
-      rw (hit, same) (omega (arith, length_push (passing test n) n), get_or_push (passing test n) n 0 (length (passing test n)) refl)
-  | inr less ↦
-      let rest = at_place test n e (omega arith) h in
-      elim (cases_Bool (test n)) [
-        | inr miss ↦ rw miss rest
-        | inl hit ↦ rw hit (omega (arith, rest.0, length_push (passing test n) n), get_or_append_left (passing test n) (n ∷ []) 0 (length (passing test e)) rest.0 ∙ rest.1)
-      ]
-]
+pub pow_few : (k : ℕ) → k ≤ 12 → 2 ^ k ≤ 4096
+pow_few k l = let h : 2 ^ k ≤ 2 ^ 12 = pow-le-pow_right (omega arith) l in h

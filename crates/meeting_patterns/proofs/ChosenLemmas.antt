@@ -10,7 +10,8 @@ use Rattle.problem_core.specs.Below.{any_below_none, none_passes}
 use Rattle.problem_core.specs.SharedSlots.{share_slot-sym}
 use Rattle.meeting_patterns.specs.Pattern.{has_bit, within, IsPattern, IsBefore, ArePatterns, AreCoursesKnown, pattern_at, is_same, share_event, share_a_slot, clash, is_equal, agrees_at, chooses}
 use Rattle.meeting_patterns.specs.declared.pattern.Pattern.{Pattern}
-use Rattle.meeting_patterns.proofs.BitLemmas.{same_bits, mask_of, mask_small, mask_bits, some_bit, IsNth, nth_is, at_place}
+use Rattle.meeting_patterns.proofs.BitLemmas.{same_bits, mask_of, mask_small, mask_bits, some_bit}
+use Rattle.problem_core.specs.Passing.{IsNth, nth_is, at_place}
 
 equal_is : (a b : Bool) → is_equal a b ≡ true → a ≡ b
 equal_is true true h = refl
@@ -33,10 +34,10 @@ agrees p a x e h l of =
 pub chooses_from : (p : Facts) (a : List ℕ) (x : Pattern) → ((e : ℕ) → e < length p.events → is_of_course p x.course e ≡ true → has_bit x.mask (place_of p e) ≡ (entry a e == x.room + 1)) → chooses p a x ≡ true
 chooses_from p a x h =
     not_from_false (any_below (λ e. not (agrees_at p a x e)) (length p.events)) (any_below_none (λ e. not (agrees_at p a x e)) (length p.events) (λ e l.
-        not_from_true (agrees_at p a x e) (elim (cases_Bool (is_of_course p x.course e)) [
-          | inl of ↦ rw of (is_equal-same (has_bit x.mask (place_of p e)) (entry a e == x.room + 1) (h e l of))
-          | inr other ↦ rw other refl
-        ])))
+    not_from_true (agrees_at p a x e) (elim (cases_Bool (is_of_course p x.course e)) [
+      | inl of ↦ rw of (is_equal-same (has_bit x.mask (place_of p e)) (entry a e == x.room + 1) (h e l of))
+      | inr other ↦ rw other refl
+    ])))
 
 pub place_is : (p : Facts) (c j e : ℕ) → IsNth (is_of_course p c) (length p.events) j e → place_of p e ≡ j
 place_is p c j e nth = ap (λ d. length (passing (is_of_course p d) e)) (eqb-true (course_of p e) c nth.passes) ∙ nth.place
@@ -44,16 +45,16 @@ place_is p c j e nth = ap (λ d. length (passing (is_of_course p d) e)) (eqb-tru
 same_mask : (p : Facts) (a : List ℕ) (x y : Pattern) → IsPattern p x → IsPattern p y → x.course ≡ y.course → x.room ≡ y.room → chooses p a x ≡ true → chooses p a y ≡ true → x.mask ≡ y.mask
 same_mask p a x y is_x is_y course room cx cy =
     same_bits (meetings_of p x.course) x.mask y.mask is_x.of_course (rw course is_y.of_course) (λ j l.
-      let e = get_or (events_of p x.course) j 0 in
-      let nth = nth_is (is_of_course p x.course) (length p.events) j l in
-      let at = place_is p x.course j e nth in
-      ap (has_bit x.mask) (sym at)
-      ∙ agrees p a x e cx nth.below nth.passes
-      ∙ ap (λ r. entry a e == r + 1) room
-      ∙ sym (agrees p a y e cy nth.below (ap (λ c. is_of_course p c e) (sym course) ∙ nth.passes))
-      ∙ ap (has_bit y.mask) at)
+    let e = get_or (events_of p x.course) j 0 in
+    let nth = nth_is (is_of_course p x.course) (length p.events) j l in
+    let at = place_is p x.course j e nth in
+    ap (has_bit x.mask) (sym at)
+    ∙ agrees p a x e cx nth.below nth.passes
+    ∙ ap (λ r. entry a e == r + 1) room
+    ∙ sym (agrees p a y e cy nth.below (ap (λ c. is_of_course p c e) (sym course) ∙ nth.passes))
+    ∙ ap (has_bit y.mask) at)
 
-same_pattern : (p : Facts) (a : List ℕ) (x y : Pattern) → IsPattern p x → IsPattern p y → x.course ≡ y.course → x.room ≡ y.room → chooses p a x ≡ true → chooses p a y ≡ true → is_same x y ≡ true
+pub same_pattern : (p : Facts) (a : List ℕ) (x y : Pattern) → IsPattern p x → IsPattern p y → x.course ≡ y.course → x.room ≡ y.room → chooses p a x ≡ true → chooses p a y ≡ true → is_same x y ≡ true
 same_pattern p a x y is_x is_y course room cx cy =
     and_from ((x.course == y.course) && (x.room == y.room)) (x.mask == y.mask)
     (and_from (x.course == y.course) (x.room == y.room) (eq-eqb x.course y.course course) (eq-eqb x.room y.room room))
@@ -84,15 +85,15 @@ apart p a x y legal is_x is_y cx cy = elim (cases_Bool (is_same x y)) [
   | inr differ ↦
       let never : x.course ≡ y.course → x.room ≡ y.room → ⊥ = λ course room. true≢false (sym (same_pattern p a x y is_x is_y course room cx cy) ∙ differ) in
       let no_event : share_event p x y ≡ false = any_below_none (λ e. within p x e && within p y e) (length p.events) (λ e l. false_from_ne_true (within p x e && within p y e) (λ both.
-        let parts = and_parts (within p x e) (within p y e) both in
-        let hx = held p a x e cx l parts.0 in
-        let hy = held p a y e cy l parts.1 in
-        never (sym hx.course ∙ hy.course) (omega (arith, hx.room, hy.room)))) in
+      let parts = and_parts (within p x e) (within p y e) both in
+      let hx = held p a x e cx l parts.0 in
+      let hy = held p a y e cy l parts.1 in
+      never (sym hx.course ∙ hy.course) (omega (arith, hx.room, hy.room)))) in
       let no_slot : x.room ≡ y.room → share_a_slot p x y ≡ false = λ room. no_pair (within p x) (λ e f. within p y f && share_slot p e f) (length p.events) (λ e f l m wx both.
-        let parts = and_parts (within p y f) (share_slot p e f) both in
-        let hx = held p a x e cx l wx in
-        let hy = held p a y f cy m parts.0 in
-        one_slot p a x y e f legal l m hx hy room never parts.1) in
+      let parts = and_parts (within p y f) (share_slot p e f) both in
+      let hx = held p a x e cx l wx in
+      let hy = held p a y f cy m parts.0 in
+      one_slot p a x y e f legal l m hx hy room never parts.1) in
       and_right (not (is_same x y)) _ (or_from (share_event p x y) _ no_event (elim (cases_eq x.room y.room) [
         | inr other ↦ and_left (x.room == y.room) _ (ne_eqb x.room y.room other)
         | inl room ↦ and_right (x.room == y.room) _ (or_from (share_a_slot p x y) (x.course == y.course) (no_slot room) (ne_eqb x.course y.course (λ course. never course room)))
@@ -104,9 +105,9 @@ apart p a x y legal is_x is_y cx cy = elim (cases_Bool (is_same x y)) [
     one_slot p a x y e f legal l m hx hy room never share = elim (cases_eq e f) [
       | inl same ↦ never (sym hx.course ∙ ap (course_of p) same ∙ hy.course) room
       | inr other ↦ elim (cases_lt e f) [
-          | inl less ↦ true≢false (sym share ∙ legal.apart e f less (omega (arith, legal.one_each, m)) (λ z. absurd (omega (arith, hx.room, z))) (omega (arith, hx.room, hy.room, room)))
-          | inr more ↦ true≢false (sym share ∙ share_slot-sym p e f ∙ legal.apart f e (omega arith) (omega (arith, legal.one_each, l)) (λ z. absurd (omega (arith, hy.room, z))) (omega (arith, hx.room, hy.room, room)))
-        ]
+        | inl less ↦ true≢false (sym share ∙ legal.apart e f less (omega (arith, legal.one_each, m)) (λ z. absurd (omega (arith, hx.room, z))) (omega (arith, hx.room, hy.room, room)))
+        | inr more ↦ true≢false (sym share ∙ share_slot-sym p e f ∙ legal.apart f e (omega arith) (omega (arith, legal.one_each, l)) (λ z. absurd (omega (arith, hy.room, z))) (omega (arith, hx.room, hy.room, room)))
+      ]
     ]
 
 -- ---- the pattern of an event with a room
@@ -168,7 +169,7 @@ holds_it p s a e i = chooses p a (pattern_at s i) && within p (pattern_at s i) e
 unfoldable pub holder : Facts → List Pattern → List ℕ → ℕ → ℕ
 holder p s a e = first_from (holds_it p s a e) 0 (length s) - 1
 
-before_differs : (x y : Pattern) → IsBefore x y → is_same x y ≡ false
+pub before_differs : (x y : Pattern) → IsBefore x y → is_same x y ≡ false
 before_differs x y (inl course) = and_left ((x.course == y.course) && (x.room == y.room)) (x.mask == y.mask) (and_left (x.course == y.course) (x.room == y.room) (ne_eqb x.course y.course (λ e. absurd (omega arith))))
 before_differs x y (inr (same, inl room)) = and_left ((x.course == y.course) && (x.room == y.room)) (x.mask == y.mask) (and_right (x.course == y.course) (x.room == y.room) (ne_eqb x.room y.room (λ e. absurd (omega arith))))
 before_differs x y (inr (same, inr (room, mask))) = and_right ((x.course == y.course) && (x.room == y.room)) (x.mask == y.mask) (ne_eqb x.mask y.mask (λ e. absurd (omega arith)))
@@ -194,8 +195,8 @@ unfolding holder holds_it
 holder_is p s a e courses are legal l some =
     let found = are.all (pattern_of p a e) (pattern_of-is p a e courses legal l some) in
     let here : holds_it p s a e found.0 ≡ true =
-        and_from (chooses p a (pattern_at s found.0)) (within p (pattern_at s found.0) e)
-        (ap (chooses p a) found.2 ∙ pattern_of-chosen p a e l some) (ap (λ x. within p x e) found.2 ∙ pattern_of-within p a e l) in
+    and_from (chooses p a (pattern_at s found.0)) (within p (pattern_at s found.0) e)
+    (ap (chooses p a) found.2 ∙ pattern_of-chosen p a e l some) (ap (λ x. within p x e) found.2 ∙ pattern_of-within p a e l) in
     let some_found : first_from (holds_it p s a e) 0 (length s) ≢ 0 = λ z. true≢false (sym here ∙ none_passes (holds_it p s a e) 0 (length s) found.0 z (omega arith) (omega (arith, found.1))) in
     let finds = first_from_finds (holds_it p s a e) 0 (length s) (first_from (holds_it p s a e) 0 (length s) - 1) (omega arith) in
     record { known = omega (arith, finds.1); holds = finds.0 }
@@ -212,14 +213,14 @@ one p s a i e courses are legal m l = elim (cases_Bool (holds_it p s a e i)) [
       holding ∙ sym (and_from (not (entry a e == 0)) (holder p s a e == i) (not_from_false (entry a e == 0) (ne_eqb (entry a e) 0 some)) (eq-eqb (holder p s a e) i (elim (cases_eq (holder p s a e) i) [
         | inl same ↦ same
         | inr other ↦ elim (cases_lt (holder p s a e) i) [
-            | inl less ↦ absurd (one_holder p s a e (holder p s a e) i are l less m is.holds holding)
-            | inr more ↦ absurd (one_holder p s a e i (holder p s a e) are l (omega arith) is.known holding is.holds)
-          ]
+          | inl less ↦ absurd (one_holder p s a e (holder p s a e) i are l less m is.holds holding)
+          | inr more ↦ absurd (one_holder p s a e i (holder p s a e) are l (omega arith) is.known holding is.holds)
+        ]
       ])))
   | inr missing ↦ missing ∙ sym (elim (cases_eq (entry a e) 0) [
-      | inl none ↦ and_left (not (entry a e == 0)) (holder p s a e == i) (not_from_true (entry a e == 0) (eq-eqb (entry a e) 0 none))
-      | inr some ↦
-          let is = holder_is p s a e courses are legal l some in
-          and_right (not (entry a e == 0)) (holder p s a e == i) (ne_eqb (holder p s a e) i (λ same. true≢false (sym (ap (holds_it p s a e) (sym same) ∙ is.holds) ∙ missing)))
-    ])
+    | inl none ↦ and_left (not (entry a e == 0)) (holder p s a e == i) (not_from_true (entry a e == 0) (eq-eqb (entry a e) 0 none))
+    | inr some ↦
+        let is = holder_is p s a e courses are legal l some in
+        and_right (not (entry a e == 0)) (holder p s a e == i) (ne_eqb (holder p s a e) i (λ same. true≢false (sym (ap (holds_it p s a e) (sym same) ∙ is.holds) ∙ missing)))
+  ])
 ]

@@ -1,3 +1,6 @@
 pub mod BitLemmas
+pub mod ListLemmas
 pub mod ChosenLemmas
 pub mod SumLemmas
+pub mod WeighLemmas
+pub mod MadeLemmas

@@ -11,7 +11,8 @@ use Rattle.problem_core.specs.Courses.{is_of_course, place_of, meetings_of, even
 use Rattle.problem_core.specs.Measures.{gain, gained, measure, meets_there, is_new_room}
 use Rattle.meeting_patterns.specs.Pattern.{has_bit, within, IsPattern, ArePatterns, AreCoursesKnown, pattern_at, chooses, weight}
 use Rattle.meeting_patterns.specs.declared.pattern.Pattern.{Pattern}
-use Rattle.meeting_patterns.proofs.BitLemmas.{least_bit, IsNth, nth_is}
+use Rattle.meeting_patterns.proofs.BitLemmas.{least_bit}
+use Rattle.problem_core.specs.Passing.{IsNth, nth_is}
 use Rattle.meeting_patterns.proofs.ChosenLemmas.{IsHeld, held, agrees, holder, holds_it, IsHolder, holder_is, one, place_is}
 
 -- the law that the sum over what is chosen is the sum over what is held
@@ -83,7 +84,7 @@ least_sum test x (suc n) = elim (cases_Bool (any_below test n)) [
     done x true = omega (arith, ints)
     done x false = omega (arith, ints)
 
-some_event : (p : Facts) (x : Pattern) → IsPattern p x → any_below (within p x) (length p.events) ≡ true
+pub some_event : (p : Facts) (x : Pattern) → IsPattern p x → any_below (within p x) (length p.events) ≡ true
 some_event p x is =
     let bit = least_bit (meetings_of p x.course) x.mask is.some is.of_course in
     let e = get_or (events_of p x.course) bit.0 0 in
@@ -126,10 +127,12 @@ one_least p s a i e courses are legal m l =
     and_true : (b : Bool) → (b && true) ≡ b
     and_true true = refl
     and_true false = refl
+
     regroup : (a b c : Bool) → (a && b) ≡ false → (a && (b && c)) ≡ false
     regroup true true c h = absurd (true≢false h)
     regroup true false c h = refl
     regroup false b c h = refl
+
     regroup_right : (a b c : Bool) → (a && c) ≡ false → ((a && b) && c) ≡ false
     regroup_right true true c h = h
     regroup_right true false c h = refl

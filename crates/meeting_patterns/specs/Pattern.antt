@@ -1,11 +1,15 @@
 -- Patterns: some meetings of a course that share a room.
-use Rattle.std.specs.Prelude.{ℕ, ℤ, pos, negsuc, ◌≡◌, ◌+◌, ◌/◌, ◌%◌, ◌^◌, ◌<◌, ◌≤◌, ◌⊎◌, ◌&&◌, ◌||◌, ◌==◌, Bool, true, not, zero, suc, if◌then◌else◌, List, length, slice_index_or, IsTrue}
+use Rattle.std.specs.Prelude.{ℕ, ℤ, pos, negsuc, ◌≡◌, ◌+◌, ◌/◌, ◌%◌, ◌^◌, ◌<◌, ◌≤◌, ◌⊎◌, ◌&&◌, ◌||◌, ◌==◌, Bool, true, not, zero, suc, if◌then◌else◌, List, [], ◌∷◌, ◌++◌, map, length, slice_index_or, IsTrue, Result, Ok, Err}
 use Rattle.numbers.specs.Below.{any_below}
 use Rattle.numbers.specs.Sums.{sum_below, picked}
 use Rattle.problem_core.specs.Facts.{Facts, suits, share_slot, course_of}
 use Rattle.problem_core.specs.Choice.{entry}
-use Rattle.problem_core.specs.Courses.{is_of_course, place_of, meetings_of}
+use Rattle.problem_core.specs.Courses.{is_of_course, place_of, meetings_of, passing}
 use Rattle.problem_core.specs.Measures.{gain}
+use Rattle.problem_core.specs.declared.limit.Limit.{Limit}
+use Rattle.problem_core.specs.declared.limit.LimitKind.TheVariants.{Patterns}
+use Rattle.problem_core.specs.declared.limit.BuildFault.{BuildFault}
+use Rattle.problem_core.specs.declared.limit.BuildFault.TheVariants.{Limit as Over, Memory}
 use Rattle.meeting_patterns.specs.declared.pattern.Pattern.{Pattern}
 
 -- bit j of a number
@@ -75,3 +79,38 @@ chooses p a x = not (any_below (λ e. not (agrees_at p a x e)) (length p.events)
 -- each event is of a course of the problem
 pub record AreCoursesKnown (p : Facts) : Type 0 where
   pub known : (e : ℕ) → e < length p.events → course_of p e < length p.students
+
+-- ---- the list of all patterns, room after room, course after course
+
+abbrev pub pattern : ℕ → ℕ → ℕ → Pattern
+pattern c r m = record { course = c; room = r; mask = m }
+
+-- the mask names some meetings, and they all suit the room
+abbrev pub is_mask : Facts → ℕ → ℕ → ℕ → Bool
+is_mask p c r m = not (m == 0) && not (any_below (λ e. within p (pattern c r m) e && not (suits p e r)) (length p.events))
+
+abbrev pub masks_at : Facts → ℕ → ℕ → List ℕ
+masks_at p c r = passing (is_mask p c r) (2 ^ meetings_of p c)
+
+-- the patterns of the course in the rooms below r
+abbrev pub in_rooms : Facts → ℕ → ℕ → List Pattern
+in_rooms p c zero = []
+in_rooms p c (suc r) = in_rooms p c r ++ map (pattern c r) (masks_at p c r)
+
+-- the patterns of the courses below c
+abbrev pub in_courses : Facts → ℕ → List Pattern
+in_courses p zero = []
+in_courses p (suc c) = in_courses p c ++ in_rooms p c (length p.capacity)
+
+abbrev pub patterns_of : Facts → List Pattern
+patterns_of p = in_courses p (length p.students)
+
+-- the patterns where there are at most 200,000, else how many there are
+abbrev pub Lists : Facts → Result (List Pattern) BuildFault → Type 0
+Lists p (Ok s) = (s ≡ patterns_of p) × (length s ≤ 200000)
+Lists p (Err (Over limit)) = (limit ≡ record { kind = Patterns; count = length (patterns_of p); limit = 200000 }) × (200000 < length (patterns_of p))
+Lists p (Err Memory) = Unit {0}
+
+-- the six weights
+abbrev pub weights : Facts → Pattern → List ℤ
+weights p x = weight p 1 x ∷ weight p 2 x ∷ weight p 3 x ∷ weight p 4 x ∷ weight p 5 x ∷ weight p 6 x ∷ []

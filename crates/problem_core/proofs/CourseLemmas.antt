@@ -9,25 +9,13 @@ use Rattle.std.proofs.lemmas.Bool.{cases_eq, cases_lt, cases_Bool, cond-true, co
 use Rattle.std.proofs.lemmas.Nat.{mul-add-lt, div-mul-add}
 use Rattle.problem_core.specs.Facts.{Facts, course_of, no_event}
 use Rattle.problem_core.specs.OfParts.{facts_of, event_of}
+use Rattle.problem_core.specs.Passing.{passing-hit, passing-miss, passing-few}
 use Rattle.problem_core.specs.Courses.{passing, is_of_course, place_of, IsCourseTable}
 use Rattle.problem_core.specs.declared.parts.Parts.{Parts}
 use Rattle.problem_core.specs.declared.parts.EventPart.{EventPart}
 
 pub course_of-parts : (p : Parts) (e : ℕ) (d : EventPart) → e < length p.events → course_of (facts_of p) e ≡ (get_or p.events e d).course
 course_of-parts p e d l = ap (λ (x : Rattle.problem_core.specs.Facts.Event). x.course) (get_or-map event_of p.events e d no_event l)
-
-pub passing-hit : (test : ℕ → Bool) (n : ℕ) → test n ≡ true → passing test (n + 1) ≡ passing test n ++ n ∷ []
-passing-hit test n h = rw (add-one, h) refl
-
-pub passing-miss : (test : ℕ → Bool) (n : ℕ) → test n ≡ false → passing test (n + 1) ≡ passing test n
-passing-miss test n h = rw (add-one, h) refl
-
-pub passing-few : (test : ℕ → Bool) (n : ℕ) → length (passing test n) ≤ n
-passing-few test zero = omega arith
-passing-few test (suc n) = elim (cases_Bool (test n)) [
-  | inl hit ↦ rw hit (omega (arith, length_push (passing test n) n, passing-few test n))
-  | inr miss ↦ rw miss (omega (arith, passing-few test n))
-]
 
 record AddsEvent (n c : ℕ) (sizes order places sizes' order' places' : List ℕ) : Type 0 where
   sizes_new : sizes' ≡ set sizes c (get_or sizes c 0 + 1)
@@ -115,68 +103,3 @@ IsCourseTable-more p n c sizes order places sizes' order' places' table is known
     rows_kept : (b : Bool) → length (cond b (set order (c * 12 + get_or sizes c 0) n) order) ≡ length order
     rows_kept true = length-set order (c * 12 + get_or sizes c 0) n
     rows_kept false = refl
-
--- what passes below m is the front of what passes below n
-pub passing-take : (test : ℕ → Bool) (m n : ℕ) → m ≤ n → take (length (passing test m)) (passing test n) ≡ passing test m
-passing-take test m zero l = let e : m ≡ 0 = omega arith in rw e refl
-passing-take test m (suc n) l = elim (cases_eq m (suc n)) [
-  | inl same ↦ rw same (take_all (length (passing test (suc n))) (passing test (suc n)) (omega arith))
-  | inr less ↦
-      let rest = passing-take test m n (omega arith) in
-      let few : length (passing test m) ≤ length (passing test n) = passing-le test m n (omega arith) in
-      elim (cases_Bool (test n)) [
-        | inl hit ↦ rw hit (take-append-le (length (passing test m)) (passing test n) (n ∷ []) few ∙ rest)
-        | inr miss ↦ rw miss rest
-      ]
-]
-  where
-    passing-le : (test : ℕ → Bool) (m n : ℕ) → m ≤ n → length (passing test m) ≤ length (passing test n)
-    passing-le test m zero l = let e : m ≡ 0 = omega arith in rw e (omega arith)
-    passing-le test m (suc n) l = elim (cases_eq m (suc n)) [
-      | inl same ↦ rw same (omega arith)
-      | inr less ↦
-          let rest = passing-le test m n (omega arith) in
-          elim (cases_Bool (test n)) [
-            | inl hit ↦ rw hit (omega (arith, length_push (passing test n) n, rest))
-            | inr miss ↦ rw miss rest
-          ]
-    ]
-
--- a number that passes has fewer before it than pass in all
-pub passing-before : (test : ℕ → Bool) (m n : ℕ) → m < n → test m ≡ true → length (passing test m) < length (passing test n)
-passing-before test m zero l h = absurd (omega arith)
-passing-before test m (suc n) l h = elim (cases_eq m n) [
-  | inl same ↦ let hit : test n ≡ true = ap test (sym same) ∙ h in rw (hit, same) (omega (arith, length_push (passing test n) n))
-  | inr less ↦
-      let rest = passing-before test m n (omega arith) h in
-      elim (cases_Bool (test n)) [
-        | inl hit ↦ rw hit (omega (arith, length_push (passing test n) n, rest))
-        | inr miss ↦ rw miss rest
-      ]
-]
-
--- a test on those that pass is one on all
-pub any_passing : (test more : ℕ → Bool) (n : ℕ) → list_any more (passing test n) ≡ any_below (λ e. test e && more e) n
-any_passing test more zero = refl
-any_passing test more (suc n) = elim (cases_Bool (test n)) [
-  | inl hit ↦ rw hit (list_any-append more (passing test n) (n ∷ []) ∙ or_last (list_any more (passing test n)) (more n) (any_below (λ e. test e && more e) n) (any_passing test more n))
-  | inr miss ↦ rw miss (any_passing test more n)
-]
-  where
-    or_last : (x y z : Bool) → x ≡ z → (x || (y || false)) ≡ (y || z)
-    or_last true true z e = refl
-    or_last true false z e = e
-    or_last false true z e = refl
-    or_last false false z e = e
-
--- and each of them is below the bound
-pub passing-below : (test : ℕ → Bool) (n m : ℕ) → n ≤ m → AllByRecursion (λ e. e < m) (passing test n)
-passing-below test zero m l = tt
-passing-below test (suc n) m l = elim (cases_Bool (test n)) [
-  | inl hit ↦ rw hit (each-push (λ e. e < m) (passing test n) n (passing-below test n m (omega arith)) (omega arith))
-  | inr miss ↦ rw miss (passing-below test n m (omega arith))
-]
-  where
-    each-push : (P : ℕ → Type 0) (xs : List ℕ) (y : ℕ) → AllByRecursion P xs → P y → AllByRecursion P (xs ++ y ∷ [])
-    each-push P [] y h k = (k, tt)
-    each-push P (x ∷ xs) y h k = (h.0, each-push P xs y h.1 k)

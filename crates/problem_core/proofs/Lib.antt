@@ -6,3 +6,4 @@ pub mod FirstChoiceLemmas
 pub mod FaultLemmas
 pub mod SumLemmas
 pub mod TakenLemmas
+pub mod ValidLemmas

@@ -5,6 +5,8 @@ pub mod Measures
 pub mod FirstChoice
 pub mod Faults
 pub mod Courses
+pub mod Passing
+pub mod Valid
 pub mod Tables
 pub mod Taken
 pub mod Grids

@@ -3,6 +3,7 @@ ghost use Rattle.std.specs.List.{list_any, AllByRecursion};
 ghost use Rattle.problem_core.specs.Courses.{events_of, place_of};
 ghost use Rattle.problem_core.specs.OfParts.{facts_of, well_formed};
 ghost use Rattle.problem_core.specs.Limits.{Builds};
+ghost use Rattle.problem_core.specs.Valid.{IsProblem};
 ghost use Rattle.problem_core.specs.Kept.{IsWithin};
 ghost use Rattle.problem_core.specs.Measures.{points_of};
 ghost use Rattle.problem_core.specs.Facts.{suits, share_slot, admits, is_closed, course_of, event_at, hours_of, run_of};
@@ -69,6 +70,14 @@ impl Problem {
             closed,
             points,
         })
+    }
+
+    /// What holds of every problem: its limits, that courses of events are known, and that events of one
+    /// course have no slot in common. It computes nothing.
+    pub fn laws(&self)
+        ensures { IsProblem self.now }
+    {
+        let _ = &self.parts;
     }
 
     /// The number of events.

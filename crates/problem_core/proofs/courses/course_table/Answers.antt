@@ -1,7 +1,8 @@
 use Rattle.std.proofs.Common.{List, ◌≡◌, ◌<◌, ◌∙◌, sym, ap, arith, length, get_or}
 use Rattle.problem_core.specs.Courses.{is_of_course}
 use Rattle.problem_core.specs.OfParts.{facts_of}
-use Rattle.problem_core.proofs.CourseLemmas.{course_of-parts, passing-few, IsCourseTable-more}
+use Rattle.problem_core.proofs.CourseLemmas.{course_of-parts, IsCourseTable-more}
+use Rattle.problem_core.specs.Passing.{passing-few}
 use Rattle.problem_core.specs.declared.parts.EventPart.{EventPart}
 use Rattle.problem_core.proofs.courses.course_table.Goals as goal
 

@@ -6,7 +6,7 @@ use Rattle.problem_core.specs.Facts.{Facts, course_of}
 use Rattle.problem_core.specs.Choice.{entry}
 use Rattle.problem_core.specs.Courses.{is_of_course, passing, place_of, events_of}
 use Rattle.problem_core.specs.Measures.{meets_there, is_new_room}
-use Rattle.problem_core.proofs.CourseLemmas.{passing-take, passing-below, any_passing}
+use Rattle.problem_core.specs.Passing.{passing-take, passing-below, any_passing}
 use Rattle.problem_core.proofs.measures.new_rooms.Goals as goal
 
 earlier : (p : Facts) (e place course : ℕ) (xs : List ℕ) → e < length p.events → place ≡ place_of p e → course ≡ course_of p e → xs ≡ events_of p course → take place xs ≡ passing (is_of_course p (course_of p e)) e

@@ -4,7 +4,8 @@ use Rattle.std.proofs.lemmas.Bool.{eq-eqb}
 use Rattle.problem_core.specs.Facts.{Facts, course_of}
 use Rattle.problem_core.specs.OfParts.{facts_of, event_of}
 use Rattle.problem_core.specs.Courses.{is_of_course, place_of}
-use Rattle.problem_core.proofs.CourseLemmas.{passing-before, course_of-parts}
+use Rattle.problem_core.proofs.CourseLemmas.{course_of-parts}
+use Rattle.problem_core.specs.Passing.{passing-before}
 use Rattle.problem_core.specs.declared.parts.EventPart.{EventPart}
 use Rattle.problem_core.proofs.problem.Problem.place_of.Goals as goal
 

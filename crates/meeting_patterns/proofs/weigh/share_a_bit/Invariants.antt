@@ -1,0 +1,11 @@
+use Rattle.std.proofs.Common.{◌≡◌, ◌<◌, ◌&&◌, length, drop}
+use Rattle.std.specs.List.{list_any, AllByRecursion}
+use Rattle.problem_core.specs.Courses.{place_of}
+use Rattle.meeting_patterns.specs.Pattern.{has_bit}
+use Rattle.meeting_patterns.proofs.weigh.share_a_bit.Given as goal
+
+abbrev pub invariant-loop-event : goal.invariant-loop-event
+invariant-loop-event l = record {
+  rest : list_any (λ e. has_bit l.a (place_of l.p e) && has_bit l.b (place_of l.p e)) l.events ≡ list_any (λ e. has_bit l.a (place_of l.p e) && has_bit l.b (place_of l.p e)) (drop l.event-index l.events);
+  known : AllByRecursion (λ e. e < length l.p.events) (drop l.event-index l.events);
+}
