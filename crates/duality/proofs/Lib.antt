@@ -1,0 +1,5 @@
+pub mod LeafLaws
+pub mod FaultLaws
+pub mod TreeLaws
+pub mod ChoiceLaws
+pub mod WalkLaws

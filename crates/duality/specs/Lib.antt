@@ -1,0 +1,4 @@
+pub mod Packing
+pub mod Leaf
+pub mod Tree
+pub mod Walk

@@ -1,0 +1,59 @@
+ghost use Rattle.std.specs.Prelude.{◌∷◌, ◌≡◌, ◌<◌, ◌↔◌, [], ℕ, ℤ, pos, ◌≤ℤ◌, Bool, true, false, List, ◌==◌, ◌&&◌};
+ghost use Rattle.numbers.specs.Sums.{value, sum_below, picked};
+ghost use Rattle.duality.specs.declared.leaf.Leaf.{Leaf};
+ghost use Rattle.duality.specs.declared.leaf.LeafFault.TheVariants.{Cost};
+ghost use Rattle.duality.specs.declared.leaf.Node.{Node};
+ghost use Rattle.duality.specs.declared.leaf.Node.TheVariants as nodes;
+ghost use Rattle.duality.specs.Packing.{Packing, Weights, Stage, Fixing, AreCliques, IsFixing, IsPacking, Meets, Follows};
+ghost use Rattle.duality.specs.Leaf.{closes, costs, leaf_fault, cost_fault, IsCapped};
+ghost use Rattle.duality.specs.Tree.{ProofTree, can_branch, ends_at, proves_all, proves_level, proves, preorder, nothing_fixed};
+ghost use Rattle.duality.specs.Walk.{Step, step_at, fixing_of, pending, pending_of, turn};
+
+/// Weak duality, whatever the objective: where a leaf closes, each choice of patterns that do not clash,
+/// that holds what is taken and nothing that is left out, and that meets the targets and the floor,
+/// weighs at most the value; against no value, and at scale 0, there is no such choice. A leaf closes
+/// exactly where it has no fault.
+pub fn leaf_laws()
+    ensures caps { (k : Packing) (w : Weights) (s : Stage) (f : Fixing) (leaf : Leaf) (has : ℕ → Bool)
+        → AreCliques k s.cuts → IsFixing k f → pos 0 ≤ℤ leaf.scale → closes k w s f leaf ≡ true
+        → IsPacking k has → Meets k w s has → Follows f has
+        → IsCapped s.best (value has (w.weight s.level) k.count) }
+    ensures empties { (k : Packing) (w : Weights) (s : Stage) (f : Fixing) (leaf : Leaf) (has : ℕ → Bool)
+        → AreCliques k s.cuts → IsFixing k f → leaf.scale ≡ pos 0 → closes k w s f leaf ≡ true
+        → IsPacking k has → Meets k w s has → Follows f has → ⊥ }
+    ensures faultless { (k : Packing) (w : Weights) (s : Stage) (f : Fixing) (leaf : Leaf) → leaf_fault k w s f leaf ≡ None ↔ closes k w s f leaf ≡ true }
+    ensures lowest { (k : Packing) (w : Weights) (s : Stage) (f : Fixing) (leaf : Leaf) (p : ℕ) → cost_fault k w s f leaf ≡ Some (Cost p)
+        → (p < k.count) × (costs k w s f leaf p ≡ true) × ((q : ℕ) → q < p → costs k w s f leaf q ≡ false) }
+{}
+
+/// A tree that proves its level caps every choice of patterns that do not clash and meet the targets and
+/// the floor; its nodes in preorder, taken one after the other, prove exactly what the tree does.
+pub fn tree_laws()
+    ensures caps { (k : Packing) (w : Weights) (s : Stage) (nodes : List Node) (has : ℕ → Bool)
+        → AreCliques k s.cuts → proves_level k w s nodes ≡ true → IsPacking k has → Meets k w s has
+        → IsCapped s.best (value has (w.weight s.level) k.count) }
+    ensures preorder { (k : Packing) (w : Weights) (s : Stage) (t : ProofTree) → proves_level k w s (preorder t) ≡ proves k w s nothing_fixed t }
+{}
+
+/// The walk of a tree by its path: a branch makes the path longer by the side that leaves its pattern
+/// out, and after a leaf the last branch on that side turns to the side that takes it.
+pub fn walk_laws()
+    ensures branch { (k : Packing) (w : Weights) (s : Stage) (path : List Step) (p : ℕ) (ns : List Node)
+        → proves_all k w s (pending_of path) (nodes.Branch p ∷ ns) ≡ (can_branch k (fixing_of path) p && proves_all k w s (pending_of (step_at p false ∷ path)) ns) }
+    ensures leaf { (k : Packing) (w : Weights) (s : Stage) (path : List Step) (leaf : Leaf) (ns : List Node)
+        → proves_all k w s (pending_of path) (nodes.Leaf leaf ∷ ns) ≡ (ends_at k w s (fixing_of path) leaf && proves_all k w s (pending (turn path)) ns) }
+{}
+
+/// From events to patterns: where each event that has a room stands in one chosen pattern, its holder,
+/// and the others in none, what the chosen patterns weigh is what the events gain; and patterns that
+/// share no event are at most as many as the events.
+pub fn choice_laws()
+    ensures measured { (count events : ℕ) (chosen : ℕ → Bool) (within : ℕ → ℕ → Bool) (gain : ℕ → ℕ → ℤ) (has_room : ℕ → Bool) (holder : ℕ → ℕ)
+        → ((e : ℕ) → e < events → has_room e ≡ true → holder e < count)
+        → ((i e : ℕ) → i < count → e < events → (chosen i && within i e) ≡ (has_room e && (holder e == i)))
+        → value chosen (λ i. sum_below (λ e. picked (within i e) (gain i e)) events) count ≡ sum_below (λ e. picked (has_room e) (gain (holder e) e)) events }
+    ensures few { (count events : ℕ) (has : ℕ → Bool) (within : ℕ → ℕ → Bool) (some : ℕ → ℕ)
+        → ((p : ℕ) → p < count → (some p < events) × (within p (some p) ≡ true))
+        → ((e p q : ℕ) → p < q → q < count → (has p && within p e) ≡ true → (has q && within q e) ≡ true → ⊥)
+        → value has (λ p. pos 1) count ≤ℤ pos events }
+{}
