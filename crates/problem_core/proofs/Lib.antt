@@ -1,0 +1,4 @@
+pub mod RunLemmas
+pub mod KeptLemmas
+pub mod FirstChoiceLemmas
+pub mod FaultLemmas

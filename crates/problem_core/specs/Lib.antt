@@ -1,0 +1,10 @@
+pub mod Below
+pub mod Facts
+pub mod Choice
+pub mod Measures
+pub mod FirstChoice
+pub mod Faults
+pub mod Courses
+pub mod OfParts
+pub mod Limits
+pub mod Kept

@@ -1,0 +1,190 @@
+ghost use Rattle.std.specs.Prelude.{◌≡◌, ◌==◌, ◌<◌, ◌≤◌, ◌+◌, ℕ, length, IsTrue, slice_index};
+ghost use Rattle.std.specs.List.{list_any};
+ghost use Rattle.problem_core.specs.OfParts.{facts_of, well_formed};
+ghost use Rattle.problem_core.specs.Limits.{Builds};
+ghost use Rattle.problem_core.specs.Facts.{suits, share_slot, is_pair, is_closed, course_of, event_at, run_of};
+
+use crate::limit::BuildFault;
+use crate::over::limit_of;
+use crate::parts::{EventPart, Parts};
+use std::alloc::Global;
+use std::marker::Model;
+
+/// Meetings that want rooms. Contracts see a problem as the lists that it was made of.
+#[derive(Drop)]
+pub struct Problem {
+    parts: Parts,
+}
+
+impl Model for Problem {
+    ghost use Rattle.problem_core.specs.Facts.{Facts};
+    ghost use Rattle.problem_core.specs.OfParts.{facts_of};
+    ghost use Rattle.problem_core.specs.Kept.{AreKept};
+
+    ghost Value = { Facts };
+
+    ghost view = { λ p. facts_of p.parts };
+
+    ghost invariant = { λ p. AreKept p.parts };
+}
+
+impl Problem {
+    /// The problem of the parts. `Limit` comes exactly where there are more than 4,000 events
+    /// (`Meetings`), else where a course has more than 12 (`CourseMeetings`, with the count of the
+    /// lowest such course). After a refusal the parts are gone.
+    pub fn build(alloc: Global, parts: Parts) -> Result<Problem, BuildFault>
+        requires { IsTrue (well_formed parts) }
+        ensures { Builds (facts_of parts) result }
+    {
+        let _ = alloc;
+        match limit_of(&parts) {
+            Some(limit) => Err(BuildFault::Limit(limit)),
+            None => Ok(Problem { parts }),
+        }
+    }
+
+    /// The number of events.
+    pub fn event_count(&self) -> u32
+        ensures count { result ≡ length self.now.events }
+        ensures few { length self.now.events ≤ 4000 }
+    {
+        self.parts.events.len() as u32
+    }
+
+    /// The number of courses.
+    pub fn course_count(&self) -> u32
+        ensures count { result ≡ length self.now.students }
+        ensures few { length self.now.students ≤ 1000 }
+    {
+        self.parts.students.len() as u32
+    }
+
+    /// The number of rooms.
+    pub fn room_count(&self) -> u32
+        ensures count { result ≡ length self.now.capacity }
+        ensures few { length self.now.capacity ≤ 200 }
+    {
+        self.parts.capacity.len() as u32
+    }
+
+    /// The number of slots.
+    pub fn slot_count(&self) -> u32
+        ensures count { result ≡ self.now.slots }
+        ensures few { self.now.slots ≤ 672 }
+    {
+        self.parts.slots
+    }
+
+    /// The event's course.
+    pub fn course_of(&self, event: u32) -> u32
+        requires { event < length self.now.events }
+        ensures course { result ≡ course_of self.now event }
+        ensures known { result < length self.now.students }
+    {
+        self.event(event).course
+    }
+
+    /// The event's first slot and how many slots it takes from there on.
+    pub fn takes(&self, event: u32) -> (u32, u32)
+        requires { event < length self.now.events }
+        ensures slots { (event_at self.now event).takes ≡ run_of result.0 result.1 }
+        ensures some { 1 ≤ result.1 }
+        ensures short { result.1 ≤ 48 }
+        ensures within { result.0 + result.1 ≤ self.now.slots }
+    {
+        let e = self.event(event);
+        (e.slot, e.length)
+    }
+
+    /// The course's students.
+    pub fn students(&self, course: u32) -> u32
+        requires { course < length self.now.students }
+        ensures students { result ≡ slice_index self.now.students course }
+        ensures small { result ≤ 1000000 }
+    {
+        self.parts.students.as_slice()[course as usize]
+    }
+
+    /// The room's capacity.
+    pub fn capacity(&self, room: u32) -> u32
+        requires { room < length self.now.capacity }
+        ensures capacity { result ≡ slice_index self.now.capacity room }
+        ensures small { result ≤ 1000000 }
+    {
+        self.parts.capacity.as_slice()[room as usize]
+    }
+
+    /// The event as it was handed in.
+    fn event(&self, event: u32) -> EventPart
+        requires { event < length self.now.events }
+        ensures course { result.course ≡ course_of self.now event }
+        ensures slots { (event_at self.now event).takes ≡ run_of result.slot result.length }
+        ensures known { result.course < length self.now.students }
+        ensures some { 1 ≤ result.length }
+        ensures short { result.length ≤ 48 }
+        ensures within { result.slot + result.length ≤ self.now.slots }
+        ensures small { result.slot + result.length ≤ 672 }
+    {
+        self.parts.events.as_slice()[event as usize]
+    }
+
+    /// Whether the room suits the event: it seats the event's course, has every feature that the
+    /// course needs, isn't denied to it, and is closed in none of the event's slots.
+    pub fn suits(&self, event: u32, room: u32) -> bool
+        requires known_event { event < length self.now.events }
+        requires known_room { room < length self.now.capacity }
+        ensures { result ≡ suits self.now event room }
+    {
+        let parts = &self.parts;
+        let e = self.event(event);
+        let needs = parts.needs.as_slice()[e.course as usize];
+        let has = parts.features.as_slice()[room as usize];
+        let seats = self.students(e.course) <= self.capacity(room);
+        let denied = has_pair(parts.denied.as_slice(), e.course, room);
+        let closed = self.is_closed(room, e.slot, e.length);
+        seats && needs & has == needs && !denied && !closed
+    }
+
+    /// Whether the two events take a slot in common.
+    pub fn share_slot(&self, first: u32, second: u32) -> bool
+        requires known_first { first < length self.now.events }
+        requires known_second { second < length self.now.events }
+        ensures { result ≡ share_slot self.now first second }
+    {
+        let e = self.event(first);
+        let f = self.event(second);
+        runs_meet(e.slot, e.length, f.slot, f.length)
+    }
+
+    /// Whether the room is closed in one of the slots.
+    fn is_closed(&self, room: u32, slot: u32, length: u32) -> bool
+        requires within { slot + length ≤ self.now.slots }
+        requires few { self.now.slots ≤ 672 }
+        ensures { result ≡ list_any (is_closed self.now room) (run_of slot length) }
+    {
+        for s in slot..slot + length {
+            if has_pair(self.parts.closed.as_slice(), room, s) {
+                return true;
+            }
+        }
+        false
+    }
+}
+
+/// Whether two runs of slots, n from a on and m from b on, have one in common.
+fn runs_meet(a: u32, n: u32, b: u32, m: u32) -> bool
+    requires some { 1 ≤ n }
+    requires other_some { 1 ≤ m }
+    requires small { a + n ≤ 672 }
+    requires other_small { b + m ≤ 672 }
+    ensures { result ≡ list_any (λ s. list_any (λ t. t == s) (run_of b m)) (run_of a n) }
+{
+    a < b + m && b < a + n
+}
+
+/// Whether the pair is listed.
+fn has_pair(pairs: &[(u32, u32)], first: u32, second: u32) -> bool
+    ensures { result ≡ list_any (is_pair first second) pairs.now }
+{
+    pairs.iter().any(|x| x.0 == first && x.1 == second)
+}
