@@ -1,0 +1,6 @@
+pub mod Turns
+pub mod Division
+pub mod Products
+pub mod Lowest
+pub mod Settled
+pub mod Commons
