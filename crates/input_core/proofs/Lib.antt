@@ -1,0 +1,4 @@
+pub mod LineLemmas
+pub mod MemoryLemmas
+pub mod ReadLemmas
+pub mod WriteLemmas
