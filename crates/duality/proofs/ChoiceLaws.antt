@@ -1,6 +1,6 @@
 -- What the chosen patterns weigh is what the events gain.
 use Rattle.std.proofs.Common.{arith, suc, zero, ℕ, ◌≡◌, ◌<◌, refl, sym, ◌∙◌, ap, Bool, true, false, ◌&&◌, inl, inr}
-use Rattle.std.specs.Prelude.{◌≤ℤ◌, ℤ, pos, ◌+ℤ◌, ◌==◌}
+use Rattle.std.specs.Prelude.{◌≤ℤ◌, ℤ, pos, ◌==◌}
 use Rattle.std.proofs.lemmas.Int.{ints}
 use Rattle.std.proofs.lemmas.Bool.{cases_Bool, cases_eq}
 use Rattle.numbers.specs.Sums.{sum_below, picked, value, sum_below-le, at_most_one, sum_below-same, sum_below-zero, sum_below-one, sum_below-exchanged}

@@ -1,10 +1,10 @@
 -- A leaf has no fault exactly where it closes.
 use Rattle.std.proofs.Common.{ℕ, ◌≡◌, ◌<◌, ◌≤◌, ◌+◌, arith, refl, sym, ◌∙◌, ap, zero, suc, Bool, true, false, not, ◌&&◌, List, [], ◌∷◌, inl, inr}
-use Rattle.std.specs.Prelude.{ℤ, pos, int_lt, Option, Some, None, if◌then◌else◌}
+use Rattle.std.specs.Prelude.{Option, Some, None, if◌then◌else◌}
 use Rattle.std.specs.Option.{option_or}
 use Rattle.std.specs.List.{list_all}
 use Rattle.std.proofs.lemmas.Bool.{true≢false, cases_Bool, cases_eq, or_from}
-use Rattle.numbers.specs.Below.{any_below, first_from, first_from_finds, any_below_at, none_below}
+use Rattle.numbers.specs.Below.{any_below, first_from, first_from_finds, any_below_at}
 use Rattle.duality.specs.declared.row.Term.{Term}
 use Rattle.duality.specs.declared.leaf.Leaf.{Leaf}
 use Rattle.duality.specs.declared.leaf.LeafFault.{LeafFault}

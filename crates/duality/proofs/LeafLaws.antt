@@ -1,5 +1,5 @@
 -- A leaf that closes caps every choice that follows its fixing.
-use Rattle.std.proofs.Common.{ℕ, ◌≡◌, ◌<◌, arith, refl, sym, ◌∙◌, ap, zero, suc, Bool, true, false, not, ◌&&◌, List, [], ◌∷◌, inl, inr, length}
+use Rattle.std.proofs.Common.{ℕ, ◌≡◌, ◌<◌, arith, refl, sym, ◌∙◌, ap, Bool, true, false, not, ◌&&◌, List, [], ◌∷◌, inl, inr, length}
 use Rattle.std.specs.Prelude.{if◌then◌else◌, ℤ, pos, ◌+ℤ◌, ◌*ℤ◌, ◌-ℤ◌, ◌≤ℤ◌, ◌<ℤ◌, ◌==◌, nat_lt, nat_le, int_le, int_lt, Option, Some, None, is_some}
 use Rattle.std.specs.List.{list_all, list_any}
 use Rattle.std.proofs.lemmas.Int.{ints}
@@ -61,7 +61,7 @@ level_bound : (k : Packing) (w : Weights) (s : Stage) (has : ℕ → Bool) → M
 level_bound k w s has meets j times h = go (j == floor_level) h
   where
     go : (b : Bool) → ((if b then is_some w.floor else nat_le 1 j && nat_lt j s.level) && (if b then int_le (pos 0) times else true)) ≡ true
-        → (times *ℤ value has (λ p. if b then pos 0 -ℤ floor_weight w.floor p else w.weight j p) k.count) ≤ℤ (times *ℤ (if b then pos 0 -ℤ floor_number w.floor else target_of s j))
+        → (times *ℤ value has (λ p. if b then pos 0 -ℤ floor_weight w.floor p else w.weight j p) k.count) ≤ℤ (times *ℤ (if b then pos 0 -ℤ floor_number w.floor else target_of s.targets j))
     go true h =
         let parts = and_parts (is_some w.floor) (int_le (pos 0) times) h in
         *ℤ-≤ℤ times _ _ (int_le-true (pos 0) times parts.1) (floor_row k has w.floor meets.floor)

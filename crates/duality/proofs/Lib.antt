@@ -3,3 +3,4 @@ pub mod FaultLaws
 pub mod TreeLaws
 pub mod ChoiceLaws
 pub mod WalkLaws
+pub mod PricedLaws

@@ -5,7 +5,6 @@ use Rattle.std.specs.List.{list_all, list_any}
 use Rattle.std.proofs.lemmas.Bool.{and_parts, and_from, or_from, or_parts, not-true, not_from_false, eq-eqb, ne_eqb, true≢false, cases_Bool}
 use Rattle.std.proofs.lemmas.List.Folds.{list_all-append, list_any-append}
 use Rattle.numbers.specs.Sums.{value, member, distinct}
-use Rattle.duality.specs.declared.leaf.Leaf.{Leaf}
 use Rattle.duality.specs.declared.leaf.Node.{Node}
 use Rattle.duality.specs.declared.leaf.Node.TheVariants.{Branch, Leaf as Closing, OpenEnd}
 use Rattle.duality.specs.Packing.{Packing, Weights, Stage, Fixing, is_free, AreCliques, IsPacking, Meets, Follows, IsFixing}

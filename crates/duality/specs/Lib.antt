@@ -2,3 +2,4 @@ pub mod Packing
 pub mod Leaf
 pub mod Tree
 pub mod Walk
+pub mod Sums

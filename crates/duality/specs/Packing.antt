@@ -48,8 +48,8 @@ floor_level = 7
 abbrev pub cut_at : Stage → ℕ → List ℕ
 cut_at s c = slice_index_or s.cuts c []
 
-abbrev pub target_of : Stage → ℕ → ℤ
-target_of s j = slice_index_or s.targets (j - 1) (pos 0)
+abbrev pub target_of : List ℤ → ℕ → ℤ
+target_of targets j = slice_index_or targets (j - 1) (pos 0)
 
 -- the floor says "at least"; as a row it says "at most" of the negated weights
 abbrev pub level_coefficient : Weights → ℕ → ℕ → ℤ
@@ -60,13 +60,13 @@ coefficient k w s (Base r) p = as_number (k.in_base r p)
 coefficient k w s (Cut c) p = as_number (member p (cut_at s c))
 coefficient k w s (Level j) p = level_coefficient w j p
 
-abbrev pub level_side : Weights → Stage → ℕ → ℤ
-level_side w s j = if j == floor_level then pos 0 -ℤ floor_number w.floor else target_of s j
+abbrev pub level_side : Weights → List ℤ → ℕ → ℤ
+level_side w targets j = if j == floor_level then pos 0 -ℤ floor_number w.floor else target_of targets j
 
 abbrev pub right_side : Weights → Stage → RowName → ℤ
 right_side w s (Base r) = pos 1
 right_side w s (Cut c) = pos 1
-right_side w s (Level j) = level_side w s j
+right_side w s (Level j) = level_side w s.targets j
 
 -- the level rows of a level are those of the levels below it
 abbrev pub is_there : Packing → Weights → Stage → RowName → Bool
@@ -107,7 +107,7 @@ meets_floor k has (Some f) = int_le f.1 (value has f.0 k.count)
 
 -- the choice weighs the targets at the levels below, and reaches the floor
 pub record Meets (k : Packing) (w : Weights) (s : Stage) (has : ℕ → Bool) : Type 0 where
-  pub targets : (j : ℕ) → 1 ≤ j → j < s.level → value has (w.weight j) k.count ≡ target_of s j
+  pub targets : (j : ℕ) → 1 ≤ j → j < s.level → value has (w.weight j) k.count ≡ target_of s.targets j
   pub floor : meets_floor k has w.floor ≡ true
 
 -- the choice holds all that is taken and nothing that is left out

@@ -2,10 +2,22 @@
 //! weak duality for every objective.
 #![tactic(auto)]
 
+mod costs;
 mod laws;
 mod leaf;
+mod objective;
 mod row;
+mod sums;
 
-pub use laws::{choice_laws, leaf_laws, tree_laws, walk_laws};
+pub use costs::{is_under, left_side, reduced_cost};
+pub use laws::{choice_laws, leaf_laws, sum_laws, tree_laws, walk_laws};
 pub use leaf::{Leaf, LeafFault, Node};
+pub use objective::{Objective, Weighed};
 pub use row::{FLOOR_LEVEL, RowName, Term};
+pub use sums::{
+    added, clique_worth, is_before, level_times, priced, priced_levels, product, times_of, weigh,
+    weight_of, worth_levels,
+};
+
+#[cfg(test)]
+mod tests;

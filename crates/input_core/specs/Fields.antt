@@ -28,6 +28,13 @@ within low high n = if nat_le low n && nat_le n high then Ok n else Err Range
 abbrev pub number_in : ℕ → ℕ → List ℕ → Result ℕ LineKind
 number_in low high field = or_fault (number_of field) Number >>= within low high
 
+abbrev pub below : ℕ → ℕ → Result ℕ LineKind
+below limit n = if nat_lt n limit then Ok n else Err Range
+
+-- a number below the limit
+abbrev pub number_below : ℕ → List ℕ → Result ℕ LineKind
+number_below limit field = or_fault (number_of field) Number >>= below limit
+
 -- a fault of a line with its number
 abbrev pub in_line : {A : Type 0} → ℕ → Result A LineKind → Result A LineFault
 in_line n (Ok x) = Ok x

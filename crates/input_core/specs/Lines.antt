@@ -1,5 +1,5 @@
 -- Lines, fields and numbers of the input files.
-use Rattle.std.specs.Prelude.{ℕ, ◌≡◌, ◌-◌, ◌<◌, ◌≤◌, ◌==◌, ◌&&◌, ◌||◌, Bool, true, not, if◌then◌else◌, nat_le, List, [], ◌∷◌, length, take, drop, map, filter, slice_index, Option, Some, None}
+use Rattle.std.specs.Prelude.{ℕ, ◌≡◌, ◌-◌, ◌<◌, ◌≤◌, ◌==◌, ◌&&◌, ◌||◌, Bool, false, true, not, if◌then◌else◌, nat_le, bytes_eq, List, [], ◌∷◌, length, take, drop, map, filter, slice_index, Option, Some, None}
 use Rattle.std.specs.List.{list_all}
 use Rattle.std.specs.Str.Parse.{digits_value}
 
@@ -45,6 +45,12 @@ is_some_text text = not (length text == 0)
 
 abbrev pub fields_of : List ℕ → List (List ℕ)
 fields_of line = filter is_some_text (cut_at_blanks line)
+
+-- whether the only field is this word
+abbrev pub is_alone : List ℕ → List (List ℕ) → Bool
+is_alone word [] = false
+is_alone word (field ∷ []) = bytes_eq field word
+is_alone word (field ∷ other ∷ fields) = false
 
 abbrev pub is_digit : ℕ → Bool
 is_digit b = nat_le 48 b && nat_le b 57

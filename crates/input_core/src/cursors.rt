@@ -1,6 +1,6 @@
 ghost use Rattle.std.specs.Prelude.{◌≡◌, ◌≤◌, ◌<◌, ◌+◌, ◌-◌, ◌^◌, [], ◌∷◌, length, take, drop, MatchOption, IfSome, IfOk, true, not, None};
 ghost use Rattle.std.specs.List.{list_all};
-ghost use Rattle.input_core.specs.Lines.{lines_of, fields_of, is_allowed, is_graphic};
+ghost use Rattle.input_core.specs.Lines.{lines_of, fields_of, is_allowed, is_alone, is_graphic};
 ghost use Rattle.input_core.specs.Rows.{NextRow, TakesRow, first_row, list_is_empty, unread, unread_from};
 
 use crate::faults::{LineFault, LineKind};
@@ -43,6 +43,30 @@ impl<'a> Fields<'a> {
         let (from, to) = next_field(self.line, self.at)?;
         self.at = to;
         Some(part(self.line, from, to))
+    }
+
+    /// Whether this word is the only field that is left.
+    pub fn is_alone(&self, word: &[u8]) -> bool
+        ensures { result ≡ is_alone word.now self.now }
+    {
+        let Some((from, to)) = next_field(self.line, self.at) else {
+            return false;
+        };
+        let ends = next_field(self.line, to).is_none();
+        part(self.line, from, to) == word && ends
+    }
+
+    /// How many fields are left.
+    pub fn count(&self) -> usize
+        ensures { result ≡ length self.now }
+    {
+        let mut count = 0;
+        let mut at = self.at;
+        while let Some((_, to)) = next_field(self.line, at) {
+            count += 1;
+            at = to;
+        }
+        count
     }
 }
 

@@ -1,7 +1,7 @@
 ghost use Rattle.std.specs.Prelude.{◌≡◌, IfOk, MatchResult, Ok, Err, true};
 ghost use Rattle.std.specs.List.{list_all};
 ghost use Rattle.input_core.specs.Lines.{is_graphic};
-ghost use Rattle.input_core.specs.Fields.{name_of, number_in};
+ghost use Rattle.input_core.specs.Fields.{name_of, number_in, number_below};
 
 use crate::faults::{LineKind, Memory};
 use crate::lines::read_number;
@@ -29,6 +29,17 @@ pub fn read_number_in(low: u32, high: u32, field: &[u8]) -> Result<u32, LineKind
     match read_number(field) {
         None => Err(LineKind::Number),
         Some(number) if low <= number && number <= high => Ok(number),
+        Some(_) => Err(LineKind::Range),
+    }
+}
+
+/// The number that the field spells: `Number` where it spells none, `Range` where it is not below the limit.
+pub fn read_number_below(limit: u32, field: &[u8]) -> Result<u32, LineKind>
+    ensures { result ≡ number_below limit field.now }
+{
+    match read_number(field) {
+        None => Err(LineKind::Number),
+        Some(number) if number < limit => Ok(number),
         Some(_) => Err(LineKind::Range),
     }
 }

@@ -14,9 +14,9 @@ mod sink;
 
 pub use cursors::{Fields, Lines, Row, Rows};
 pub use faults::{LineFault, LineKind, Memory, TextFault, kind_text};
-pub use fields::{read_name, read_number_in, text_of_field};
+pub use fields::{NAME_LIMIT, read_name, read_number_below, read_number_in, text_of_field};
 pub use files::FileShelf;
-pub use lines::{next_field, next_line, read_number};
+pub use lines::{is_allowed_line, next_field, next_line, read_number};
 pub use mem_shelf::MemShelf;
 pub use read::{INPUT_LIMIT, ReadRefusal, read_all};
 pub use shelf::{Fault, PutFault, Shelf, Sink};
@@ -76,11 +76,14 @@ mod tests {
         let mut rows = Rows::new(b"\n\tC1\t007 \r\n\n\xc8");
         let mut row = rows.expect()?;
         assert_eq!(rt; row.line, 2);
+        assert_eq!(rt; row.fields.count(), 2);
+        assert!(rt; !row.fields.is_alone(b"C1"));
         let name = row.fields.next().ok_or("no name")?;
         assert_eq!(rt; read_name(name), Ok(b"C1".as_slice()));
         assert_eq!(rt; text_of_field(alloc, name)?.as_str(), "C1");
         let number = row.fields.next().ok_or("no number")?;
         assert_eq!(rt; read_number_in(0, 7, number), Ok(7));
+        assert_eq!(rt; read_number_below(7, number), Err(LineKind::Range));
         let fault = LineFault {
             line: 4,
             kind: LineKind::Byte,
