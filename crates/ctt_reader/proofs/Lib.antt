@@ -1,0 +1,5 @@
+pub mod EntryLemmas
+pub mod FileLemmas
+pub mod NameLemmas
+pub mod PromiseLemmas
+pub mod SectionLemmas

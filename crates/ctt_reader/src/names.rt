@@ -1,0 +1,71 @@
+ghost use Rattle.std.specs.Prelude.{◌≡◌, ◌<◌, ◌^◌, [], ◌++◌, ◌∷◌, length, not, IfOk, OnOk, OnErr};
+ghost use Rattle.ctt_reader.specs.Names.{place_of, has_name, with_name, course_at, room_at};
+
+use indexmap::IndexSet;
+use input_core::{LineKind, Memory, read_name};
+use std::alloc::Global;
+use std::marker::Model;
+
+/// Different names in their order, each found by a look-up. Contracts see the list of them.
+#[derive(Drop)]
+pub struct Names<'a> {
+    set: IndexSet<&'a [u8]>,
+}
+
+impl<'a> Model for Names<'a> {
+    ghost use Rattle.std.specs.Prelude.{List, ℕ, map};
+
+    ghost Value = { List (List ℕ) };
+
+    ghost view = { λ n. map (λ key. key.now) n.set.keys };
+}
+
+impl<'a> Names<'a> {
+    /// No names.
+    pub fn new(alloc: Global) -> Names<'a>
+        ensures { result ≡ [] }
+    {
+        Names {
+            set: IndexSet::new(alloc),
+        }
+    }
+
+    /// Adds a name at the end, where it is a new one, and says whether it is.
+    pub fn add(&mut self, name: &'a [u8]) -> Result<bool, Memory>
+        ensures fresh { IfOk result (λ fresh. fresh ≡ not (has_name name.entry.now self.old)) }
+        ensures names { OnOk result (self.new ≡ with_name self.old name.entry.now) }
+        ensures kept { OnErr result (self.new ≡ self.old) }
+    {
+        let Ok(fresh) = self.set.insert(name) else {
+            return Err(Memory);
+        };
+        Ok(fresh)
+    }
+
+    /// The number of a name, from 0.
+    pub fn find(&self, name: &[u8]) -> Option<u32>
+        requires { length self.now < 2 ^ 32 }
+        ensures { result ≡ place_of name.now self.now }
+    {
+        let place = self.set.get_index_of(name)?;
+        Some(place as u32)
+    }
+}
+
+/// The number of the course that the field names: `NameLength`, else `UnknownCourse`.
+pub fn read_course(courses: &Names, field: &[u8]) -> Result<u32, LineKind>
+    requires { length courses.now < 2 ^ 32 }
+    ensures { result ≡ course_at courses.now field.now }
+{
+    read_name(field)?;
+    courses.find(field).ok_or(LineKind::UnknownCourse)
+}
+
+/// The number of the room that the field names: `NameLength`, else `UnknownRoom`.
+pub fn read_room(rooms: &Names, field: &[u8]) -> Result<u32, LineKind>
+    requires { length rooms.now < 2 ^ 32 }
+    ensures { result ≡ room_at rooms.now field.now }
+{
+    read_name(field)?;
+    rooms.find(field).ok_or(LineKind::UnknownRoom)
+}
