@@ -40,6 +40,7 @@ impl Exact128 {
     }
 
     /// The fraction with these parts; none is a refusal, which is counted.
+    #[inline]
     fn settled(&mut self, parts: Option<(i128, i128)>) -> Result<Frac128, Wide>
         requires { IfSome parts (λ p. IsLow p.0 p.1 × (unsigned_abs p.0 < 2 ^ 127)) }
         ensures { Settles value_128 parts self.old self.new result }
@@ -126,6 +127,7 @@ impl Exact64 {
     }
 
     /// The fraction with these parts; none is a refusal, which is counted.
+    #[inline]
     fn settled(&mut self, parts: Option<(i128, i128)>) -> Result<Frac64, Wide>
         requires { IfSome parts (λ p. IsLow p.0 p.1 × (unsigned_abs p.0 < 2 ^ 63) × (unsigned_abs p.1 < 2 ^ 63)) }
         ensures { Settles value_64 parts self.old self.new result }

@@ -41,16 +41,21 @@ fn gcd(a: u128, b: u128) -> u128
 }
 
 /// The greatest common divisor, where the second number is positive.
+#[inline]
 pub(crate) fn common_divisor(a: i128, b: i128) -> i128
     requires { pos 0 <ℤ b }
     ensures gcd { IsGcd (unsigned_abs a) (unsigned_abs b) (unsigned_abs result) }
     ensures positive { pos 0 <ℤ result }
 {
+    if b == 1 {
+        return 1;
+    }
     let g = gcd(a.unsigned_abs(), b.unsigned_abs());
     g as i128
 }
 
 /// A division without remainder.
+#[inline]
 pub(crate) fn quotient(n: i128, k: i128) -> i128
     requires some { pos 0 <ℤ k }
     requires divides { unsigned_abs k ∣ unsigned_abs n }
@@ -100,6 +105,7 @@ pub(crate) fn reduced(bound: u128, num: i128, den: i128) -> Option<(i128, i128)>
 }
 
 /// The number, where its size is below the bound.
+#[inline]
 fn fitting(bound: u128, n: i128) -> Option<i128>
     ensures { MatchOption result (below bound n ≡ false) (λ c. (c ≡ n) × (below bound n ≡ true)) }
 {
@@ -111,6 +117,7 @@ fn fitting(bound: u128, n: i128) -> Option<i128>
 }
 
 /// The product, where its size is below the bound.
+#[inline]
 pub(crate) fn fitting_product(bound: u128, a: i128, b: i128) -> Option<i128>
     requires { bound ≤ 2 ^ 127 }
     ensures { MatchOption result (below bound (a *ℤ b) ≡ false) (λ c. (c ≡ a *ℤ b) × (below bound (a *ℤ b) ≡ true)) }
@@ -122,6 +129,7 @@ pub(crate) fn fitting_product(bound: u128, a: i128, b: i128) -> Option<i128>
 }
 
 /// The sum, where its size is below the bound.
+#[inline]
 fn fitting_sum(bound: u128, a: i128, b: i128) -> Option<i128>
     requires { bound ≤ 2 ^ 127 }
     ensures { MatchOption result (below bound (a +ℤ b) ≡ false) (λ c. (c ≡ a +ℤ b) × (below bound (a +ℤ b) ≡ true)) }
@@ -133,6 +141,7 @@ fn fitting_sum(bound: u128, a: i128, b: i128) -> Option<i128>
 }
 
 /// The sum of two whole numbers, as parts.
+#[inline]
 fn whole_sum(bound: u128, a: i128, c: i128) -> Option<(i128, i128)>
     requires bound { bound ≤ 2 ^ 127 }
     requires one { 1 < bound }
@@ -206,6 +215,7 @@ pub(crate) fn sum_parts(
 }
 
 /// The product of two whole numbers, as parts.
+#[inline]
 fn whole_product(bound: u128, a: i128, c: i128) -> Option<(i128, i128)>
     requires bound { bound ≤ 2 ^ 127 }
     requires one { 1 < bound }
