@@ -54,6 +54,19 @@ pub(crate) fn common_divisor(a: i128, b: i128) -> i128
     g as i128
 }
 
+/// A division of a number of 64 bits without remainder.
+#[inline]
+fn quotient_of_short(n: i64, k: i128) -> i128
+    requires some { pos 0 <ℤ k }
+    requires divides { unsigned_abs k ∣ unsigned_abs n }
+    ensures { result *ℤ k ≡ n }
+{
+    match i64::try_from(k) {
+        Ok(short_k) => i128::from(n / short_k),
+        Err(_) => i128::from(n) / k,
+    }
+}
+
 /// A division without remainder.
 #[inline]
 pub(crate) fn quotient(n: i128, k: i128) -> i128
@@ -61,7 +74,13 @@ pub(crate) fn quotient(n: i128, k: i128) -> i128
     requires divides { unsigned_abs k ∣ unsigned_abs n }
     ensures { result *ℤ k ≡ n }
 {
-    if k == 1 { n } else { n / k }
+    if k == 1 {
+        return n;
+    }
+    match i64::try_from(n) {
+        Ok(short_n) => quotient_of_short(short_n, k),
+        Err(_) => n / k,
+    }
 }
 
 /// The number of this size with the sign of `num / den`.
