@@ -16,6 +16,14 @@ use std::marker::Model;
 /// Sizes below this are at most 10^24, and fit the numerators of `Exact128::common`.
 const COMMON_BOUND: u128 = 1_000_000_000_000_000_000_000_001;
 
+/// One more refusal; the count stands still at its greatest value.
+#[inline]
+fn raised(wides: u64) -> u64
+    ensures { Rose wides result }
+{
+    wides.saturating_add(1)
+}
+
 /// Arithmetic on fractions of 128-bit parts, where sizes up to 2^127 - 1 fit. Contracts see it as its
 /// count of refusals.
 #[derive(Debug, Drop)]
@@ -48,7 +56,7 @@ impl Exact128 {
         match parts {
             Some((num, den)) => Ok(Frac128::from_parts(num, den)),
             None => {
-                self.wides = self.wides.saturating_add(1);
+                self.wides = raised(self.wides);
                 Err(Wide)
             }
         }
@@ -92,7 +100,7 @@ impl Arith for Exact128 {
             Ok(common) => Ok(common),
             Err(CommonFault::Memory) => Err(CommonFault::Memory),
             Err(CommonFault::Wide) => {
-                self.wides = self.wides.saturating_add(1);
+                self.wides = raised(self.wides);
                 Err(CommonFault::Wide)
             }
         }
@@ -135,7 +143,7 @@ impl Exact64 {
         match parts {
             Some((num, den)) => Ok(Frac64::from_parts(num, den)),
             None => {
-                self.wides = self.wides.saturating_add(1);
+                self.wides = raised(self.wides);
                 Err(Wide)
             }
         }
@@ -203,7 +211,7 @@ impl Arith for Exact64 {
             Ok(common) => Ok(common),
             Err(CommonFault::Memory) => Err(CommonFault::Memory),
             Err(CommonFault::Wide) => {
-                self.wides = self.wides.saturating_add(1);
+                self.wides = raised(self.wides);
                 Err(CommonFault::Wide)
             }
         }
@@ -241,7 +249,7 @@ impl Refusing {
     fn refused(&mut self) -> Result<Frac64, Wide>
         ensures { Settles value_64 None self.old self.new result }
     {
-        self.wides = self.wides.saturating_add(1);
+        self.wides = raised(self.wides);
         Err(Wide)
     }
 }
@@ -274,7 +282,7 @@ impl Arith for Refusing {
     }
 
     fn common(&mut self, _alloc: Global, _list: &[Frac64]) -> Result<Common, CommonFault> {
-        self.wides = self.wides.saturating_add(1);
+        self.wides = raised(self.wides);
         Err(CommonFault::Wide)
     }
 

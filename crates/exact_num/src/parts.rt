@@ -175,13 +175,7 @@ fn whole_sum(bound: u128, a: i128, c: i128) -> Option<(i128, i128)>
 }
 
 /// The sum of any two fractions, as parts.
-fn full_sum(
-    bound: u128,
-    a: i128,
-    b: i128,
-    c: i128,
-    d: i128,
-) -> Option<(i128, i128)>
+fn full_sum(bound: u128, a: i128, b: i128, c: i128, d: i128) -> Option<(i128, i128)>
     requires bound { bound ≤ 2 ^ 127 }
     requires first { IsLow a b }
     requires second { IsLow c d }
@@ -210,13 +204,7 @@ fn full_sum(
 
 /// The parts of `a / b + c / d` in lowest terms, or `None` where a working number is not below the bound.
 #[inline]
-pub(crate) fn sum_parts(
-    bound: u128,
-    a: i128,
-    b: i128,
-    c: i128,
-    d: i128,
-) -> Option<(i128, i128)>
+pub(crate) fn sum_parts(bound: u128, a: i128, b: i128, c: i128, d: i128) -> Option<(i128, i128)>
     requires bound { bound ≤ 2 ^ 127 }
     requires one { 1 < bound }
     requires first { IsLow a b }
@@ -247,13 +235,7 @@ fn whole_product(bound: u128, a: i128, c: i128) -> Option<(i128, i128)>
 }
 
 /// The product of any two fractions, as parts.
-fn full_product(
-    bound: u128,
-    a: i128,
-    b: i128,
-    c: i128,
-    d: i128,
-) -> Option<(i128, i128)>
+fn full_product(bound: u128, a: i128, b: i128, c: i128, d: i128) -> Option<(i128, i128)>
     requires bound { bound ≤ 2 ^ 127 }
     requires first { IsLow a b }
     requires second { IsLow c d }
@@ -276,13 +258,7 @@ fn full_product(
 
 /// The parts of `a / b * c / d` in lowest terms, or `None` where a working number is not below the bound.
 #[inline]
-pub(crate) fn product_parts(
-    bound: u128,
-    a: i128,
-    b: i128,
-    c: i128,
-    d: i128,
-) -> Option<(i128, i128)>
+pub(crate) fn product_parts(bound: u128, a: i128, b: i128, c: i128, d: i128) -> Option<(i128, i128)>
     requires bound { bound ≤ 2 ^ 127 }
     requires one { 1 < bound }
     requires first { IsLow a b }

@@ -1,7 +1,7 @@
-use Rattle.std.proofs.Common.{rules, ◌≡◌, ◌∙◌, ap, sym, subst, ◌*ℤ◌, ◌-ℤ◌, ◌≢◌, pos, arith, unsigned_abs, SFits, FitsSigned, to_z, of_z, to_z-of_z}
-use Rattle.std.specs.Int.{w64, w128, ◌∣◌}
+use Rattle.std.proofs.Common.{rules, ◌≡◌, ◌∙◌, ap, sym, subst, ◌*ℤ◌, SFits, FitsSigned, to_z-of_z}
+use Rattle.std.specs.Int.{w64, w128}
 use Rattle.std.specs.Int.RustNames.{int_div}
-use Rattle.std.proofs.lemmas.Int.{quot_is, ints}
+use Rattle.std.proofs.lemmas.Int.{quot_is}
 use Rattle.exact_num.proofs.Division.{exact}
 use Rattle.exact_num.proofs.parts.quotient_of_short.Goals as goal
 
