@@ -1,9 +1,7 @@
 -- The loops over denominators and numerators, at one fraction.
-use Rattle.std.proofs.Common.{ℕ, ◌≡◌, ◌*◌, ◌+◌, ◌<◌, ◌≤◌, arith, refl, sym, ◌∙◌, ap, ap₂, suc, subst, List, [], ◌∷◌, ◌++◌, map, drop, length, get_or, Bool, true, false, ◌&&◌, ℤ, pos, negsuc, ◌<ℤ◌, ◌*ℤ◌, unsigned_abs, append_assoc, append-nil, rules, nat_lt, Result, Ok, Err, Vec, Global}
+use Rattle.std.proofs.Common.{ℕ, ◌≡◌, ◌*◌, ◌+◌, ◌<◌, ◌≤◌, arith, refl, sym, ◌∙◌, ap, ap₂, suc, subst, List, [], ◌∷◌, ◌++◌, map, drop, length, get_or, Bool, true, false, ◌&&◌, ℤ, ◌*ℤ◌, unsigned_abs, append_assoc, append-nil, rules, nat_lt}
 use Rattle.std.specs.List.{list_all}
 use Rattle.std.specs.Int.{◌∣◌, IsGcd}
-use Rattle.std.specs.Int.RustNames.{int_div}
-use Rattle.std.proofs.lemmas.Int.{ints}
 use Rattle.std.proofs.lemmas.Nat.Gcd.{le_of_dvd}
 use Rattle.std.proofs.Math.Seq.{drop-cons}
 use Rattle.std.proofs.Math.ListN.{drop_of_length-le}
@@ -12,7 +10,7 @@ use Rattle.exact_num.specs.Cross.{abs-*ℤ}
 use Rattle.exact_num.specs.Work.{below}
 use Rattle.exact_num.specs.Multiples.{lcm_of, lcm_of_parts, lcm_of_gives, lcm_of_assoc, lcm_of-one, one-lcm_of, lcm_of-positive, least_den, least_den-positive, size-den, Divides}
 use Rattle.exact_num.specs.Denominators.{num_over, nums_over}
-use Rattle.exact_num.proofs.Division.{size-positive, quotient_is, false_1, false_rest, both_true}
+use Rattle.exact_num.proofs.Division.{quotient_is, false_1}
 
 -- the values from place i on
 abbrev pub from : {F : Type 0} → (F → ℚ) → ℕ → List F → List ℚ

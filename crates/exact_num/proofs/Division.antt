@@ -202,14 +202,16 @@ sum_found bound a b c d g b₁ d₁ s h s₁ d₂ den t p q x y z w =
     let sum : ℚ = record { num = s₁; den = den; low = low } in
     let is : sum ≡ first +ℚ second = steps_value first second sum g b₁ d₁ s h s₁ d₂ t refl in
     let over : IsOver (first +ℚ second) ((a *ℤ d) +ℤ (c *ℤ b)) (b *ℤ d) =
-        +ℚ-over first second (a *ℤ d) (c *ℤ b) (b *ℤ d) (over_scaled first a b d (over_self first) q.positive)
-        (subst (λ k. IsOver second (c *ℤ b) k) (*ℤ_comm d b) (over_scaled second c d b (over_self second) p.positive)) in
-    (fits_all bound a b c d g b₁ d₁ s h s₁ d₂ den t x y z w, record {
-      low = low;
-      value = (subst (λ (r : ℚ). IsOver r ((a *ℤ d) +ℤ (c *ℤ b)) (b *ℤ d)) (sym is) over).cross;
-      num_fits = below_fits bound s₁ (smaller bound s₁ h s t.whole_s t.some_h z);
-      den_fits = below_fits bound den w;
-    })
+    +ℚ-over first second (a *ℤ d) (c *ℤ b) (b *ℤ d) (over_scaled first a b d (over_self first) q.positive)
+    (subst (λ k. IsOver second (c *ℤ b) k) (*ℤ_comm d b) (over_scaled second c d b (over_self second) p.positive)) in (
+      fits_all bound a b c d g b₁ d₁ s h s₁ d₂ den t x y z w,
+      record {
+        low = low;
+        value = (subst (λ (r : ℚ). IsOver r ((a *ℤ d) +ℤ (c *ℤ b)) (b *ℤ d)) (sym is) over).cross;
+        num_fits = below_fits bound s₁ (smaller bound s₁ h s t.whole_s t.some_h z);
+        den_fits = below_fits bound den w;
+      },
+    )
 
 pub fits_below : (bound : ℕ) (z : ℤ) → unsigned_abs z < bound → below bound z ≡ true
 fits_below bound z h = search (rules, h)

@@ -1,12 +1,12 @@
 -- A quotient of whole numbers in lowest terms.
-use Rattle.std.proofs.Common.{ℕ, ◌≡◌, ◌≢◌, ◌*◌, ◌/◌, ◌<◌, ◌≤◌, arith, refl, sym, ◌∙◌, ap, ap₂, zero, suc, subst, false, Bool, ◌&&◌, nat_lt, rules, ℤ, pos, negsuc, ◌<ℤ◌, ◌≤ℤ◌, ◌*ℤ◌, neg_ℤ, unsigned_abs, mul_comm}
+use Rattle.std.proofs.Common.{ℕ, ◌≡◌, ◌≢◌, ◌*◌, ◌/◌, ◌<◌, ◌≤◌, arith, refl, sym, ◌∙◌, ap, zero, suc, subst, false, nat_lt, rules, ℤ, pos, negsuc, ◌<ℤ◌, ◌≤ℤ◌, ◌*ℤ◌, neg_ℤ, unsigned_abs, mul_comm}
 use Rattle.std.proofs.lemmas.Int.{ints}
-use Rattle.std.specs.Int.{◌∣◌, IsGcd}
+use Rattle.std.specs.Int.{IsGcd}
 use Rattle.std.proofs.Math.Nat.{mul-div_cancel'}
 use Rattle.numbers.specs.Coprime.{IsCoprime, same_den}
 use Rattle.exact_num.specs.Cross.{abs-*ℤ, abs-neg}
-use Rattle.exact_num.specs.Q.{ℚ, IsLow}
-use Rattle.exact_num.specs.Over.{coprime_parts, neg-*ℤ, neg-pos-*ℤ}
+use Rattle.exact_num.specs.Q.{ℚ}
+use Rattle.exact_num.specs.Over.{coprime_parts, neg-pos-*ℤ}
 use Rattle.exact_num.specs.Work.{below}
 use Rattle.exact_num.specs.Arith.{IsReduced, IsValue, IsUnfit}
 use Rattle.exact_num.specs.Signs.{sign_of}

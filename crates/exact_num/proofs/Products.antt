@@ -1,5 +1,5 @@
 -- Products of fractions cut by common divisors, and sums and products of whole numbers.
-use Rattle.std.proofs.Common.{ℕ, ◌≡◌, ◌<◌, ◌*◌, arith, refl, sym, ◌∙◌, ap, ap₂, subst, mul_comm, List, [], ◌∷◌, true, false, Bool, nat_lt, Option, ℤ, pos, negsuc, ◌<ℤ◌, ◌+ℤ◌, ◌*ℤ◌, unsigned_abs}
+use Rattle.std.proofs.Common.{ℕ, ◌≡◌, ◌<◌, ◌*◌, arith, refl, sym, ◌∙◌, ap, ap₂, subst, mul_comm, [], ◌∷◌, true, false, Option, ℤ, pos, ◌<ℤ◌, ◌+ℤ◌, ◌*ℤ◌, unsigned_abs}
 use Rattle.std.specs.List.{list_all}
 use Rattle.std.specs.Int.{◌∣◌, IsGcd}
 use Rattle.std.specs.Int.RustNames.{int_div}
@@ -14,9 +14,9 @@ use Rattle.exact_num.specs.Over.{*ℤ_middle, coprime_parts}
 use Rattle.exact_num.specs.Ops.{times_one}
 use Rattle.exact_num.specs.Reduced.{coprime_swap, coprime_down, coprime_product}
 use Rattle.exact_num.specs.Whole.{low_one}
-use Rattle.exact_num.specs.Work.{below, product_of_parts, product_after, sum_of_parts, gcd_ℤ}
+use Rattle.exact_num.specs.Work.{below, product_of_parts, product_after, sum_of_parts}
 use Rattle.exact_num.specs.Arith.{IsReduced, Finds}
-use Rattle.exact_num.proofs.Division.{size-positive, divisor_is, quotient_is, quotient_positive, false_1, false_rest, both_true, below_fits, fits_below, AreSumSteps, sum_found, fails_3}
+use Rattle.exact_num.proofs.Division.{size-positive, divisor_is, quotient_is, quotient_positive, false_1, false_rest, both_true, below_fits, fits_below, sum_found, fails_3}
 
 -- what the steps of the product of a / b and c / d have found
 pub record AreProductSteps (a b c d g h a₁ c₁ b₁ d₁ : ℤ) : Type 0 where
@@ -89,14 +89,16 @@ product_value a₁ c₁ b₁ d₁ g h =
 
 pub product_found : (bound : ℕ) (a b c d g h a₁ c₁ b₁ d₁ : ℤ) → AreProductSteps a b c d g h a₁ c₁ b₁ d₁ → IsLow a b → IsLow c d → below bound (a₁ *ℤ c₁) ≡ true → below bound (b₁ *ℤ d₁) ≡ true
     → (list_all (below bound) (product_of_parts a b c d) ≡ true) × IsReduced bound (a₁ *ℤ c₁) (b₁ *ℤ d₁) (a *ℤ c) (b *ℤ d)
-product_found bound a b c d g h a₁ c₁ b₁ d₁ t p q x y =
-    (ap (list_all (below bound)) (product_whole a b c d g h a₁ c₁ b₁ d₁ t) ∙ both_true _ _ x (both_true _ true y refl), record {
-      low = product_low a b c d g h a₁ c₁ b₁ d₁ t p q;
-      value = ap₂ (λ y z. (a₁ *ℤ c₁) *ℤ (y *ℤ z)) (sym t.whole_b) (sym t.whole_d) ∙ product_value a₁ c₁ b₁ d₁ g h
-          ∙ ap₂ (λ y z. (y *ℤ z) *ℤ (b₁ *ℤ d₁)) t.whole_a t.whole_c;
-      num_fits = below_fits bound (a₁ *ℤ c₁) x;
-      den_fits = below_fits bound (b₁ *ℤ d₁) y;
-    })
+product_found bound a b c d g h a₁ c₁ b₁ d₁ t p q x y = (
+  ap (list_all (below bound)) (product_whole a b c d g h a₁ c₁ b₁ d₁ t) ∙ both_true _ _ x (both_true _ true y refl),
+  record {
+    low = product_low a b c d g h a₁ c₁ b₁ d₁ t p q;
+    value = ap₂ (λ y z. (a₁ *ℤ c₁) *ℤ (y *ℤ z)) (sym t.whole_b) (sym t.whole_d) ∙ product_value a₁ c₁ b₁ d₁ g h
+        ∙ ap₂ (λ y z. (y *ℤ z) *ℤ (b₁ *ℤ d₁)) t.whole_a t.whole_c;
+    num_fits = below_fits bound (a₁ *ℤ c₁) x;
+    den_fits = below_fits bound (b₁ *ℤ d₁) y;
+  },
+)
 
 -- ---- whole numbers
 
@@ -127,8 +129,17 @@ pub whole_sum_found : (bound : ℕ) (a c : ℤ) → 1 < bound → unsigned_abs a
 whole_sum_found bound a c one first second fits =
     sum_found bound a (pos 1) c (pos 1) (pos 1) (pos 1) (pos 1) (a +ℤ c) (pos 1) (a +ℤ c) (pos 1) (pos 1)
     (record {
-      is_g = gcd_one 1; some_g = one_positive; whole_b = refl; whole_d = refl; s_is = sym (ap₂ (λ y z. y +ℤ z) (times_one a) (times_one c));
-      is_h = gcd_one (unsigned_abs (a +ℤ c)); some_h = one_positive; whole_s = times_one (a +ℤ c); whole_d₂ = refl; den_is = refl })
+      is_g = gcd_one 1;
+      some_g = one_positive;
+      whole_b = refl;
+      whole_d = refl;
+      s_is = sym (ap₂ (λ y z. y +ℤ z) (times_one a) (times_one c));
+      is_h = gcd_one (unsigned_abs (a +ℤ c));
+      some_h = one_positive;
+      whole_s = times_one (a +ℤ c);
+      whole_d₂ = refl;
+      den_is = refl;
+    })
     (low_one a) (low_one c)
     (ap (below bound) (times_one a) ∙ fits_below bound a first) (ap (below bound) (times_one c) ∙ fits_below bound c second) fits (fits_below bound (pos 1) one)
 

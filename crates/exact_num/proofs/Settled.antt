@@ -1,19 +1,18 @@
 -- From parts that were found to the answer of an arithmetic.
-use Rattle.std.proofs.Common.{ℕ, ◌≡◌, ◌≢◌, ◌<◌, arith, refl, sym, ◌∙◌, ap, ap₂, zero, suc, subst, [], ◌∷◌, Bool, true, ◌≤ℤ◌, ℤ, pos, negsuc, ◌<ℤ◌, ◌+ℤ◌, ◌*ℤ◌, neg_ℤ, unsigned_abs, Option, Some, None, Result, Ok, Err, IfSome}
+use Rattle.std.proofs.Common.{ℕ, ◌≡◌, ◌≢◌, ◌<◌, arith, refl, sym, ◌∙◌, ap, zero, suc, subst, [], ◌∷◌, Bool, true, ◌≤ℤ◌, ℤ, pos, negsuc, ◌<ℤ◌, ◌+ℤ◌, ◌*ℤ◌, neg_ℤ, unsigned_abs, Option, Some, None, Result, Ok, Err, IfSome}
 use Rattle.std.specs.List.{list_all}
 use Rattle.std.proofs.lemmas.Int.{ints}
 use Rattle.std.proofs.Math.IntN.{*ℤ_comm}
 use Rattle.numbers.specs.Coprime.{IsCoprime}
-use Rattle.exact_num.specs.Cross.{abs-neg}
 use Rattle.exact_num.specs.Q.{ℚ, IsLow, same_parts}
-use Rattle.exact_num.specs.Over.{IsOver, over_self, over_scaled, over_same, neg-*ℤ}
-use Rattle.exact_num.specs.Ops.{◌+ℚ◌, ◌*ℚ◌, neg_ℚ, inv_ℚ, +ℚ-over, *ℚ-over, neg-over, inv-over}
+use Rattle.exact_num.specs.Over.{IsOver, over_scaled, over_same}
+use Rattle.exact_num.specs.Ops.{◌+ℚ◌, +ℚ-over}
 use Rattle.exact_num.specs.Reduced.{size_of_neg, coprime_swap}
 use Rattle.exact_num.specs.Work.{below, product_of_parts, quotient_of_parts}
 use Rattle.exact_num.specs.Whole.{low_one}
 use Rattle.exact_num.proofs.Division.{both_true, below_fits}
 use Rattle.exact_num.specs.Signs.{turned_num}
-use Rattle.exact_num.specs.Arith.{Finds, Settles, Gives, IsReduced, HasParts, Rose}
+use Rattle.exact_num.specs.Arith.{Finds, Settles, Gives, IsReduced}
 
 pub settled : {N : Type 0} → {E : Type 0} → (value : N → ℚ) (bound : ℕ) (fits : Bool) (x e : ℤ) (exact : ℚ) (before now : ℕ) (found : Option (ℤ × ℤ)) (result : Result N E)
     → Finds bound fits x e found → Settles value found before now result → IsOver exact x e → Gives value fits exact before now result
@@ -78,9 +77,12 @@ quotient_positive bound a b (pos n) d found more h = h
 quotient_positive bound a b (negsuc n) d found more h = absurd (omega (arith, ints))
 
 pub int_found : (bound : ℕ) (n m : ℤ) → m ≡ n → below bound n ≡ true → 1 < bound → (list_all (below bound) (n ∷ []) ≡ true) × IsReduced bound m (pos 1) n (pos 1)
-int_found bound n m e fits one = (both_true _ true fits refl, record {
-  low = low_one m;
-  value = ap (λ z. z *ℤ pos 1) e;
-  num_fits = subst (λ z. unsigned_abs z < bound) (sym e) (below_fits bound n fits);
-  den_fits = one;
-})
+int_found bound n m e fits one = (
+  both_true _ true fits refl,
+  record {
+    low = low_one m;
+    value = ap (λ z. z *ℤ pos 1) e;
+    num_fits = subst (λ z. unsigned_abs z < bound) (sym e) (below_fits bound n fits);
+    den_fits = one;
+  },
+)

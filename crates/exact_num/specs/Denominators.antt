@@ -1,13 +1,12 @@
 -- Fractions over their least common denominator.
-use Rattle.std.proofs.Common.{ℕ, ◌≡◌, ◌+◌, ◌*◌, ◌/◌, ◌<◌, ◌^◌, true, false, List, [], ◌∷◌, map, Bool, ◌&&◌, ℤ, pos, negsuc, ◌*ℤ◌, ◌<ℤ◌, unsigned_abs, Result, Ok, Err}
-use Rattle.std.specs.Int.{◌∣◌, IsGcd}
+use Rattle.std.proofs.Common.{ℕ, ◌≡◌, ◌+◌, ◌^◌, true, false, List, ◌∷◌, map, Bool, ◌&&◌, ℤ, pos, ◌*ℤ◌, Result, Ok, Err}
 use Rattle.std.specs.Int.RustNames.{int_div}
 use Rattle.std.specs.List.{list_all}
 use Rattle.std.proofs.Common.{Vec, Global}
 use Rattle.exact_num.specs.Q.{ℚ}
 use Rattle.exact_num.specs.Work.{below}
 use Rattle.exact_num.specs.Multiples.{least_den}
-use Rattle.exact_num.specs.Arith.{Rose, IsRefused}
+use Rattle.exact_num.specs.Arith.{IsRefused}
 use Rattle.exact_num.specs.declared.arith.Common.{Common}
 use Rattle.exact_num.specs.declared.arith.CommonFault.{CommonFault}
 use Rattle.exact_num.specs.declared.arith.CommonFault.TheVariants as fault

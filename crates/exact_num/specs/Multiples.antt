@@ -1,13 +1,12 @@
 -- Least common multiples, and the least common denominator of fractions.
-use Rattle.std.proofs.Common.{ℕ, ◌≡◌, ◌*◌, ◌/◌, ◌<◌, ◌≤◌, arith, refl, sym, ◌∙◌, ap, ap₂, zero, suc, subst, List, [], ◌∷◌, ℤ, pos, negsuc, ◌<ℤ◌, unsigned_abs, mul_comm}
+use Rattle.std.proofs.Common.{ℕ, ◌≡◌, ◌*◌, ◌/◌, ◌<◌, arith, sym, ◌∙◌, ap, subst, List, [], ◌∷◌, ℤ, pos, negsuc, ◌<ℤ◌, unsigned_abs, mul_comm}
 use Rattle.std.specs.Int.{◌∣◌, IsGcd}
 use Rattle.std.proofs.lemmas.Int.{ints}
-use Rattle.std.proofs.lemmas.Nat.Gcd.{dvd_antisymm, dvd_trans, dvd_refl, le_of_dvd}
+use Rattle.std.proofs.lemmas.Nat.Gcd.{dvd_antisymm, dvd_trans, dvd_refl}
 use Rattle.std.proofs.Math.Nat.{mul-div_cancel', dvd-mul_right, dvd-mul_left, one-dvd, mul-dvd-mul_left, dvd_of_mul-dvd-mul_left}
-use Rattle.numbers.specs.Coprime.{IsCoprime, divides_other}
+use Rattle.numbers.specs.Coprime.{divides_other}
 use Rattle.exact_num.specs.Q.{ℚ}
 use Rattle.exact_num.specs.Over.{coprime_parts, factor_positive}
-use Rattle.exact_num.specs.Reduced.{coprime_swap}
 use Rattle.exact_num.specs.Work.{gcd_of, gcd_of_gives, gcd_of_is}
 
 -- m is a multiple of both numbers, and divides each other one

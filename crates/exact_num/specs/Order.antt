@@ -1,5 +1,9 @@
 -- The order of fractions.
 use Rattle.std.specs.declared.cmp.Ordering.{Ordering}
+use Rattle.std.specs.declared.cmp.Ordering.TheVariants.{Less, Equal, Greater}
+use Rattle.std.specs.Ordering.{MatchOrdering}
+use Rattle.std.specs.Cmp.{int_ranks, int_cmp_is}
+use Rattle.std.proofs.Common.{◌≢◌}
 use Rattle.exact_num.specs.Cross.{cross_cmp}
 use Rattle.std.proofs.Common.{ℕ, ◌≡◌, ◌<◌, arith, refl, sym, ◌∙◌, ap, zero, suc, subst, ◌⊎◌, inl, inr}
 use Rattle.std.specs.Prelude.{ℤ, pos, negsuc, ◌+ℤ◌, ◌-ℤ◌, ◌*ℤ◌, ◌≤ℤ◌, ◌<ℤ◌}
@@ -7,9 +11,9 @@ use Rattle.std.proofs.lemmas.Int.{ints, by_lt_z}
 use Rattle.std.proofs.Math.IntN.{*ℤ_comm}
 use Rattle.numbers.specs.Algebra.{*ℤ_assoc, *ℤ-positive, *ℤ-<ℤ, -ℤ-*ℤ}
 use Rattle.exact_num.specs.Cross.{swap_last}
-use Rattle.exact_num.specs.Q.{ℚ}
+use Rattle.exact_num.specs.Q.{ℚ, same_value}
 use Rattle.exact_num.specs.Over.{IsOver, over_self, over_scaled, over_same, two_over}
-use Rattle.exact_num.specs.Ops.{zero_ℚ, neg_ℚ, ◌+ℚ◌, ◌*ℚ◌, zero-over, +ℚ-over, *ℚ-over, +ℚ_comm, +ℚ_assoc, +ℚ-zero, zero-+ℚ, +ℚ-neg, +ℚ-*ℚ, neg-*ℚ}
+use Rattle.exact_num.specs.Ops.{zero_ℚ, neg_ℚ, ◌+ℚ◌, ◌*ℚ◌, zero-over, +ℚ-over, *ℚ-over, +ℚ_comm, +ℚ_assoc, +ℚ-zero, zero-+ℚ, +ℚ-neg, +ℚ-*ℚ, neg-*ℚ, one_ℚ, one-over, inv_ℚ, *ℚ-inv, *ℚ_comm, *ℚ_cancel, +ℚ_cancel, zero-*ℚ}
 use Rattle.exact_num.specs.Sums.{sum_ℚ}
 
 infix 4 ◌≤ℚ◌
@@ -131,3 +135,82 @@ sum_ℚ-≤ℚ f g (suc n) h = add_both (sum_ℚ f n) (sum_ℚ g n) (f n) (g n) 
 -- how two fractions compare
 abbrev pub cmp_ℚ : ℚ → ℚ → Ordering
 cmp_ℚ p q = cross_cmp p.num p.den q.num q.den
+
+-- ---- strictly less, and what a comparison says
+
+infix 4 ◌<ℚ◌
+pub record ◌<ℚ◌ (a b : ℚ) : Type 0 where
+  pub cross : (a.num *ℤ b.den) <ℤ (b.num *ℤ a.den)
+
+pub cmp-less : (a b : ℚ) → cmp_ℚ a b ≡ Less → a <ℚ b
+cmp-less a b e =
+    let x = a.num *ℤ b.den in
+    let y = b.num *ℤ a.den in
+    record { cross = subst (λ o. MatchOrdering o (x <ℤ y) (x ≡ y) (y <ℤ x)) e (int_ranks x y) }
+
+pub cmp-equal : (a b : ℚ) → cmp_ℚ a b ≡ Equal → a ≡ b
+cmp-equal a b e =
+    let x = a.num *ℤ b.den in
+    let y = b.num *ℤ a.den in
+    same_value a b (subst (λ o. MatchOrdering o (x <ℤ y) (x ≡ y) (y <ℤ x)) e (int_ranks x y))
+
+pub cmp-greater : (a b : ℚ) → cmp_ℚ a b ≡ Greater → b <ℚ a
+cmp-greater a b e =
+    let x = a.num *ℤ b.den in
+    let y = b.num *ℤ a.den in
+    record { cross = subst (λ o. MatchOrdering o (x <ℤ y) (x ≡ y) (y <ℤ x)) e (int_ranks x y) }
+
+pub less-cmp : (a b : ℚ) → a <ℚ b → cmp_ℚ a b ≡ Less
+less-cmp a b h = sym (int_cmp_is (a.num *ℤ b.den) (b.num *ℤ a.den) Less h.cross)
+
+pub <ℚ-≤ℚ : (a b : ℚ) → a <ℚ b → a ≤ℚ b
+<ℚ-≤ℚ a b h = let l : (a.num *ℤ b.den) <ℤ (b.num *ℤ a.den) = h.cross in record { cross = omega (arith, ints) }
+
+pub <ℚ-not-≤ℚ : (a b : ℚ) → a <ℚ b → b ≤ℚ a → ⊥
+<ℚ-not-≤ℚ a b h k =
+    let l : (a.num *ℤ b.den) <ℤ (b.num *ℤ a.den) = h.cross in
+    let m : (b.num *ℤ a.den) ≤ℤ (a.num *ℤ b.den) = k.cross in
+    omega (arith, ints)
+
+pub <ℚ_or_≤ℚ : (a b : ℚ) → (a <ℚ b) ⊎ (b ≤ℚ a)
+<ℚ_or_≤ℚ a b = by_lt_z (a.num *ℤ b.den) (b.num *ℤ a.den) (λ l. inl (record { cross = l })) (λ l. inr (record { cross = l }))
+
+pub ≤ℚ-<ℚ : (a b : ℚ) → a ≤ℚ b → a ≢ b → a <ℚ b
+≤ℚ-<ℚ a b h ne = elim (<ℚ_or_≤ℚ a b) [ inl l ↦ l | inr k ↦ absurd (ne (≤ℚ_antisymm a b h k)) ]
+
+pub <ℚ-not-≡ : (a b : ℚ) → a <ℚ b → a ≢ b
+<ℚ-not-≡ a b h e = <ℚ-not-≤ℚ a b h (subst (λ x. x ≤ℚ a) e (≤ℚ_refl a))
+
+pub <ℚ_trans : (a b c : ℚ) → a <ℚ b → b ≤ℚ c → a <ℚ c
+<ℚ_trans a b c h k = elim (<ℚ_or_≤ℚ a c) [ inl l ↦ l | inr m ↦ absurd (<ℚ-not-≤ℚ a b h (≤ℚ_trans b c a k m)) ]
+
+pub +ℚ-<ℚ : (a b c : ℚ) → a <ℚ b → a +ℚ c <ℚ b +ℚ c
++ℚ-<ℚ a b c h = ≤ℚ-<ℚ (a +ℚ c) (b +ℚ c) (+ℚ-≤ℚ a b c (<ℚ-≤ℚ a b h)) (λ e. <ℚ-not-≡ a b h (+ℚ_cancel a b c e))
+
+positive_some : (c : ℚ) → zero_ℚ <ℚ c → c ≢ zero_ℚ
+positive_some c h e = <ℚ-not-≡ zero_ℚ c h (sym e)
+
+pub *ℚ-<ℚ : (a b c : ℚ) → a <ℚ b → zero_ℚ <ℚ c → a *ℚ c <ℚ b *ℚ c
+*ℚ-<ℚ a b c h k =
+    ≤ℚ-<ℚ (a *ℚ c) (b *ℚ c) (*ℚ-≤ℚ a b c (<ℚ-≤ℚ a b h) (<ℚ-≤ℚ zero_ℚ c k)) (λ e. <ℚ-not-≡ a b h (*ℚ_cancel a b c (positive_some c k) e))
+
+pub *ℚ-positive : (a b : ℚ) → zero_ℚ <ℚ a → zero_ℚ <ℚ b → zero_ℚ <ℚ a *ℚ b
+*ℚ-positive a b p q = subst (λ x. x <ℚ a *ℚ b) (zero-*ℚ b) (*ℚ-<ℚ zero_ℚ a b p q)
+
+pub zero-<ℚ-one : zero_ℚ <ℚ one_ℚ
+zero-<ℚ-one = elim (<ℚ_or_≤ℚ zero_ℚ one_ℚ) [
+  | inl l ↦ l
+  | inr h ↦
+      let one : pos 0 <ℤ pos 1 = omega (arith, ints) in
+      let k : pos 1 ≤ℤ pos 0 = ≤ℚ-to one_ℚ zero_ℚ (pos 1) (pos 0) (pos 1) (one-over (pos 1) one) (zero-over (pos 1) one) h in
+      absurd (omega (arith, ints))
+]
+
+pub inv-positive : (a : ℚ) → zero_ℚ <ℚ a → zero_ℚ <ℚ inv_ℚ a
+inv-positive a h = elim (<ℚ_or_≤ℚ zero_ℚ (inv_ℚ a)) [
+  | inl l ↦ l
+  | inr k ↦
+      let below : inv_ℚ a *ℚ a ≤ℚ zero_ℚ *ℚ a = *ℚ-≤ℚ (inv_ℚ a) zero_ℚ a k (<ℚ-≤ℚ zero_ℚ a h) in
+      let one : inv_ℚ a *ℚ a ≡ one_ℚ = *ℚ_comm (inv_ℚ a) a ∙ *ℚ-inv a (positive_some a h) in
+      absurd (<ℚ-not-≤ℚ zero_ℚ one_ℚ zero-<ℚ-one (subst (λ x. x ≤ℚ zero_ℚ) one (subst (λ x. inv_ℚ a *ℚ a ≤ℚ x) (zero-*ℚ a) below)))
+]

@@ -1,5 +1,4 @@
 -- Every fraction over every denominator: the way to all laws.
-use Rattle.std.specs.Prelude.{unsigned_abs}
 use Rattle.std.proofs.Common.{ℕ, ◌≡◌, ◌*◌, ◌/◌, ◌<◌, arith, refl, sym, ◌∙◌, ap, zero, suc, subst, zero-mul}
 use Rattle.std.specs.Prelude.{ℤ, pos, negsuc, ◌-ℤ◌, ◌*ℤ◌, ◌<ℤ◌, neg_ℤ}
 use Rattle.std.specs.Int.{◌∣◌, IsGcd}

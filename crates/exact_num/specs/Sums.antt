@@ -1,5 +1,5 @@
 -- Finite sums of fractions.
-use Rattle.std.proofs.Common.{ℕ, ◌≡◌, ◌<◌, arith, refl, sym, ◌∙◌, ap, ap₂, zero, suc, ◌≢◌, eq-or-lt_of_le, inl, inr, ◌⊎◌}
+use Rattle.std.proofs.Common.{ℕ, ◌≡◌, ◌<◌, arith, refl, sym, ◌∙◌, ap, ap₂, zero, suc, ◌≢◌, eq-or-lt_of_le, inl, inr, ◌⊎◌, ◌+◌, add-one, List, get_or, length}
 use Rattle.exact_num.specs.Q.{ℚ}
 use Rattle.exact_num.specs.Ops.{zero_ℚ, ◌+ℚ◌, ◌*ℚ◌, +ℚ_middle, +ℚ-last, +ℚ-zero, zero-+ℚ, *ℚ-+ℚ, *ℚ-zero}
 
@@ -45,3 +45,13 @@ sum_ℚ-replaced f g r (suc n) l h =
 pub sum_ℚ-one : (f : ℕ → ℚ) (r n : ℕ) → r < n → ((p : ℕ) → p < n → p ≢ r → f p ≡ zero_ℚ) → sum_ℚ f n ≡ f r
 sum_ℚ-one f r n l h =
     sym (+ℚ-zero (sum_ℚ f n)) ∙ sum_ℚ-replaced (λ _. zero_ℚ) f r n l h ∙ ap (λ x. x +ℚ f r) (sum_ℚ-zero n) ∙ zero-+ℚ (f r)
+
+pub sum_ℚ-more : (f : ℕ → ℚ) (n : ℕ) (x : ℚ) → x ≡ f n → sum_ℚ f (n + 1) ≡ sum_ℚ f n +ℚ x
+sum_ℚ-more f n x e = rw (add-one, e) refl
+
+-- the entry at a place, or 0 past the end; and the sum of the products of the entries
+abbrev pub entry_ℚ : List ℚ → ℕ → ℚ
+entry_ℚ qs i = get_or qs i zero_ℚ
+
+abbrev pub dot_ℚ : List ℚ → List ℚ → ℚ
+dot_ℚ ps qs = sum_ℚ (λ i. entry_ℚ ps i *ℚ entry_ℚ qs i) (length ps)

@@ -1,5 +1,5 @@
 -- The value of a fraction of 64-bit parts: equal values are equal structs.
-use Rattle.std.proofs.Common.{◌≡◌, ◌↔◌, ap, ap₂, ◌<◌, ◌^◌, ◌&&◌, ℤ, unsigned_abs, true, refl}
+use Rattle.std.proofs.Common.{◌≡◌, ◌↔◌, ap, ap₂, ◌<◌, ◌^◌, ◌&&◌, ℤ, unsigned_abs, true}
 use Rattle.std.specs.Ordering.{int_eq}
 use Rattle.std.specs.Cmp.{signed_Decides}
 use Rattle.std.proofs.lemmas.Bool.{and_parts, and_from}
@@ -32,8 +32,8 @@ same_64 x y e = same_fields x y (ap (λ (q : ℚ). q.num) e) (ap (λ (q : ℚ). 
 
 pub equal_64 : (x y : Frac64) → ((int_eq x.num y.num && int_eq x.den y.den) ≡ true) ↔ (value_64 x ≡ value_64 y)
 equal_64 x y = (
-    λ e. let parts = and_parts (int_eq x.num y.num) (int_eq x.den y.den) e in
-        same_parts (value_64 x) (value_64 y) ((signed_Decides x.num y.num).0 parts.0) ((signed_Decides x.den y.den).0 parts.1),
-    λ e. and_from (int_eq x.num y.num) (int_eq x.den y.den)
-        ((signed_Decides x.num y.num).1 (ap (λ (q : ℚ). q.num) e)) ((signed_Decides x.den y.den).1 (ap (λ (q : ℚ). q.den) e)),
-  )
+  λ e. let parts = and_parts (int_eq x.num y.num) (int_eq x.den y.den) e in
+      same_parts (value_64 x) (value_64 y) ((signed_Decides x.num y.num).0 parts.0) ((signed_Decides x.den y.den).0 parts.1),
+  λ e. and_from (int_eq x.num y.num) (int_eq x.den y.den)
+      ((signed_Decides x.num y.num).1 (ap (λ (q : ℚ). q.num) e)) ((signed_Decides x.den y.den).1 (ap (λ (q : ℚ). q.den) e)),
+)

@@ -1,11 +1,10 @@
 -- Whole numbers as fractions.
-use Rattle.std.proofs.Common.{ℕ, ◌≡◌, ◌<◌, arith, refl, sym, ◌∙◌, ap, ap₂, ℤ, pos, negsuc, ◌+ℤ◌, ◌*ℤ◌, ◌≤ℤ◌, ◌<ℤ◌, neg_ℤ, unsigned_abs, subst}
-use Rattle.std.specs.Int.{◌∣◌}
+use Rattle.std.proofs.Common.{ℕ, ◌≡◌, arith, refl, sym, ap, ℤ, pos, ◌+ℤ◌, ◌*ℤ◌, ◌≤ℤ◌, ◌<ℤ◌, neg_ℤ, unsigned_abs}
 use Rattle.std.proofs.lemmas.Int.{ints}
 use Rattle.std.proofs.lemmas.Nat.Gcd.{dvd_antisymm}
 use Rattle.std.proofs.Math.Nat.{one-dvd}
 use Rattle.numbers.specs.Coprime.{IsCoprime}
-use Rattle.exact_num.specs.Q.{ℚ, IsLow, same_parts}
+use Rattle.exact_num.specs.Q.{ℚ, IsLow}
 use Rattle.exact_num.specs.Over.{IsOver, over_self, over_same}
 use Rattle.exact_num.specs.Ops.{◌+ℚ◌, ◌*ℚ◌, neg_ℚ, zero_ℚ, one_ℚ, +ℚ-over, *ℚ-over, neg-over, zero-over, one-over}
 use Rattle.exact_num.specs.Order.{◌≤ℚ◌, ≤ℚ-from, ≤ℚ-to}

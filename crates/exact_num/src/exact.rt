@@ -16,6 +16,14 @@ use std::marker::Model;
 /// Sizes below this are at most 10^24, and fit the numerators of `Exact128::common`.
 const COMMON_BOUND: u128 = 1_000_000_000_000_000_000_000_001;
 
+/// One more refusal; the count stands still at its greatest value.
+#[inline]
+fn raised(wides: u64) -> u64
+    ensures { Rose wides result }
+{
+    wides.saturating_add(1)
+}
+
 /// Arithmetic on fractions of 128-bit parts, where sizes up to 2^127 - 1 fit. Contracts see it as its
 /// count of refusals.
 #[derive(Debug, Drop)]
@@ -40,6 +48,7 @@ impl Exact128 {
     }
 
     /// The fraction with these parts; none is a refusal, which is counted.
+    #[inline]
     fn settled(&mut self, parts: Option<(i128, i128)>) -> Result<Frac128, Wide>
         requires { IfSome parts (λ p. IsLow p.0 p.1 × (unsigned_abs p.0 < 2 ^ 127)) }
         ensures { Settles value_128 parts self.old self.new result }
@@ -47,7 +56,7 @@ impl Exact128 {
         match parts {
             Some((num, den)) => Ok(Frac128::from_parts(num, den)),
             None => {
-                self.wides = self.wides.saturating_add(1);
+                self.wides = raised(self.wides);
                 Err(Wide)
             }
         }
@@ -91,7 +100,7 @@ impl Arith for Exact128 {
             Ok(common) => Ok(common),
             Err(CommonFault::Memory) => Err(CommonFault::Memory),
             Err(CommonFault::Wide) => {
-                self.wides = self.wides.saturating_add(1);
+                self.wides = raised(self.wides);
                 Err(CommonFault::Wide)
             }
         }
@@ -126,6 +135,7 @@ impl Exact64 {
     }
 
     /// The fraction with these parts; none is a refusal, which is counted.
+    #[inline]
     fn settled(&mut self, parts: Option<(i128, i128)>) -> Result<Frac64, Wide>
         requires { IfSome parts (λ p. IsLow p.0 p.1 × (unsigned_abs p.0 < 2 ^ 63) × (unsigned_abs p.1 < 2 ^ 63)) }
         ensures { Settles value_64 parts self.old self.new result }
@@ -133,7 +143,7 @@ impl Exact64 {
         match parts {
             Some((num, den)) => Ok(Frac64::from_parts(num, den)),
             None => {
-                self.wides = self.wides.saturating_add(1);
+                self.wides = raised(self.wides);
                 Err(Wide)
             }
         }
@@ -201,7 +211,7 @@ impl Arith for Exact64 {
             Ok(common) => Ok(common),
             Err(CommonFault::Memory) => Err(CommonFault::Memory),
             Err(CommonFault::Wide) => {
-                self.wides = self.wides.saturating_add(1);
+                self.wides = raised(self.wides);
                 Err(CommonFault::Wide)
             }
         }
@@ -239,7 +249,7 @@ impl Refusing {
     fn refused(&mut self) -> Result<Frac64, Wide>
         ensures { Settles value_64 None self.old self.new result }
     {
-        self.wides = self.wides.saturating_add(1);
+        self.wides = raised(self.wides);
         Err(Wide)
     }
 }
@@ -272,7 +282,7 @@ impl Arith for Refusing {
     }
 
     fn common(&mut self, _alloc: Global, _list: &[Frac64]) -> Result<Common, CommonFault> {
-        self.wides = self.wides.saturating_add(1);
+        self.wides = raised(self.wides);
         Err(CommonFault::Wide)
     }
 

@@ -34,6 +34,7 @@ impl Frac128 {
     }
 
     /// The fraction with these parts.
+    #[inline]
     pub(crate) fn from_parts(num: i128, den: i128) -> Frac128
         requires low { IsLow num den }
         requires fits { unsigned_abs num < 2 ^ 127 }
@@ -55,10 +56,12 @@ impl Fraction for Frac128 {
 
     ghost order = { λ x y. refl };
 
+    #[inline]
     fn num(&self) -> i128 {
         self.num
     }
 
+    #[inline]
     fn den(&self) -> i128 {
         self.den
     }

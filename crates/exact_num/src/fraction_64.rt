@@ -34,6 +34,7 @@ impl Frac64 {
     }
 
     /// The fraction with these parts.
+    #[inline]
     pub(crate) fn from_parts(num: i128, den: i128) -> Frac64
         requires low { IsLow num den }
         requires fits { unsigned_abs num < 2 ^ 63 }
@@ -59,10 +60,12 @@ impl Fraction for Frac64 {
 
     ghost order = { λ x y. refl };
 
+    #[inline]
     fn num(&self) -> i128 {
         i128::from(self.num)
     }
 
+    #[inline]
     fn den(&self) -> i128 {
         i128::from(self.den)
     }

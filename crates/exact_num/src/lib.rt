@@ -11,6 +11,7 @@ mod exact;
 mod fraction;
 mod fraction_128;
 mod fraction_64;
+mod law;
 mod parts;
 mod steps;
 
@@ -19,6 +20,7 @@ pub use exact::{Exact64, Exact128, Refusing};
 pub use fraction::Fraction;
 pub use fraction_64::Frac64;
 pub use fraction_128::Frac128;
+pub use law::laws;
 pub use steps::Steps;
 
 #[cfg(test)]

@@ -41,22 +41,46 @@ fn gcd(a: u128, b: u128) -> u128
 }
 
 /// The greatest common divisor, where the second number is positive.
+#[inline]
 pub(crate) fn common_divisor(a: i128, b: i128) -> i128
     requires { pos 0 <ℤ b }
     ensures gcd { IsGcd (unsigned_abs a) (unsigned_abs b) (unsigned_abs result) }
     ensures positive { pos 0 <ℤ result }
 {
+    if b == 1 {
+        return 1;
+    }
     let g = gcd(a.unsigned_abs(), b.unsigned_abs());
     g as i128
 }
 
+/// A division of a number of 64 bits without remainder.
+#[inline]
+fn quotient_of_short(n: i64, k: i128) -> i128
+    requires some { pos 0 <ℤ k }
+    requires divides { unsigned_abs k ∣ unsigned_abs n }
+    ensures { result *ℤ k ≡ n }
+{
+    match i64::try_from(k) {
+        Ok(short_k) => i128::from(n / short_k),
+        Err(_) => i128::from(n) / k,
+    }
+}
+
 /// A division without remainder.
+#[inline]
 pub(crate) fn quotient(n: i128, k: i128) -> i128
     requires some { pos 0 <ℤ k }
     requires divides { unsigned_abs k ∣ unsigned_abs n }
     ensures { result *ℤ k ≡ n }
 {
-    if k == 1 { n } else { n / k }
+    if k == 1 {
+        return n;
+    }
+    match i64::try_from(n) {
+        Ok(short_n) => quotient_of_short(short_n, k),
+        Err(_) => n / k,
+    }
 }
 
 /// The number of this size with the sign of `num / den`.
@@ -100,6 +124,7 @@ pub(crate) fn reduced(bound: u128, num: i128, den: i128) -> Option<(i128, i128)>
 }
 
 /// The number, where its size is below the bound.
+#[inline]
 fn fitting(bound: u128, n: i128) -> Option<i128>
     ensures { MatchOption result (below bound n ≡ false) (λ c. (c ≡ n) × (below bound n ≡ true)) }
 {
@@ -111,6 +136,7 @@ fn fitting(bound: u128, n: i128) -> Option<i128>
 }
 
 /// The product, where its size is below the bound.
+#[inline]
 pub(crate) fn fitting_product(bound: u128, a: i128, b: i128) -> Option<i128>
     requires { bound ≤ 2 ^ 127 }
     ensures { MatchOption result (below bound (a *ℤ b) ≡ false) (λ c. (c ≡ a *ℤ b) × (below bound (a *ℤ b) ≡ true)) }
@@ -122,6 +148,7 @@ pub(crate) fn fitting_product(bound: u128, a: i128, b: i128) -> Option<i128>
 }
 
 /// The sum, where its size is below the bound.
+#[inline]
 fn fitting_sum(bound: u128, a: i128, b: i128) -> Option<i128>
     requires { bound ≤ 2 ^ 127 }
     ensures { MatchOption result (below bound (a +ℤ b) ≡ false) (λ c. (c ≡ a +ℤ b) × (below bound (a +ℤ b) ≡ true)) }
@@ -133,6 +160,7 @@ fn fitting_sum(bound: u128, a: i128, b: i128) -> Option<i128>
 }
 
 /// The sum of two whole numbers, as parts.
+#[inline]
 fn whole_sum(bound: u128, a: i128, c: i128) -> Option<(i128, i128)>
     requires bound { bound ≤ 2 ^ 127 }
     requires one { 1 < bound }
@@ -147,13 +175,7 @@ fn whole_sum(bound: u128, a: i128, c: i128) -> Option<(i128, i128)>
 }
 
 /// The sum of any two fractions, as parts.
-fn full_sum(
-    bound: u128,
-    a: i128,
-    b: i128,
-    c: i128,
-    d: i128,
-) -> Option<(i128, i128)>
+fn full_sum(bound: u128, a: i128, b: i128, c: i128, d: i128) -> Option<(i128, i128)>
     requires bound { bound ≤ 2 ^ 127 }
     requires first { IsLow a b }
     requires second { IsLow c d }
@@ -182,13 +204,7 @@ fn full_sum(
 
 /// The parts of `a / b + c / d` in lowest terms, or `None` where a working number is not below the bound.
 #[inline]
-pub(crate) fn sum_parts(
-    bound: u128,
-    a: i128,
-    b: i128,
-    c: i128,
-    d: i128,
-) -> Option<(i128, i128)>
+pub(crate) fn sum_parts(bound: u128, a: i128, b: i128, c: i128, d: i128) -> Option<(i128, i128)>
     requires bound { bound ≤ 2 ^ 127 }
     requires one { 1 < bound }
     requires first { IsLow a b }
@@ -206,6 +222,7 @@ pub(crate) fn sum_parts(
 }
 
 /// The product of two whole numbers, as parts.
+#[inline]
 fn whole_product(bound: u128, a: i128, c: i128) -> Option<(i128, i128)>
     requires bound { bound ≤ 2 ^ 127 }
     requires one { 1 < bound }
@@ -218,13 +235,7 @@ fn whole_product(bound: u128, a: i128, c: i128) -> Option<(i128, i128)>
 }
 
 /// The product of any two fractions, as parts.
-fn full_product(
-    bound: u128,
-    a: i128,
-    b: i128,
-    c: i128,
-    d: i128,
-) -> Option<(i128, i128)>
+fn full_product(bound: u128, a: i128, b: i128, c: i128, d: i128) -> Option<(i128, i128)>
     requires bound { bound ≤ 2 ^ 127 }
     requires first { IsLow a b }
     requires second { IsLow c d }
@@ -247,13 +258,7 @@ fn full_product(
 
 /// The parts of `a / b * c / d` in lowest terms, or `None` where a working number is not below the bound.
 #[inline]
-pub(crate) fn product_parts(
-    bound: u128,
-    a: i128,
-    b: i128,
-    c: i128,
-    d: i128,
-) -> Option<(i128, i128)>
+pub(crate) fn product_parts(bound: u128, a: i128, b: i128, c: i128, d: i128) -> Option<(i128, i128)>
     requires bound { bound ≤ 2 ^ 127 }
     requires one { 1 < bound }
     requires first { IsLow a b }

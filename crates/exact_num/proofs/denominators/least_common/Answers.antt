@@ -1,9 +1,9 @@
-use Rattle.std.proofs.Common.{rules, arith, ◌≡◌, ◌<◌, ◌+◌, ◌∙◌, ap, sym, refl, subst, map, pos, ◌<ℤ◌, ◌*ℤ◌, unsigned_abs, true, SFits, to_z, to_z-of_z}
+use Rattle.std.proofs.Common.{rules, arith, ◌≡◌, ◌<◌, ◌+◌, ◌∙◌, ap, sym, subst, map, pos, ◌<ℤ◌, ◌*ℤ◌, unsigned_abs, true, SFits, to_z, to_z-of_z}
 use Rattle.std.specs.Int.{w128, IsGcd}
 use Rattle.std.proofs.lemmas.Int.{ints}
 use Rattle.numbers.specs.Algebra.{*ℤ-positive}
 use Rattle.exact_num.specs.Work.{below}
-use Rattle.exact_num.specs.Multiples.{least_den, least_den-positive, one-lcm_of}
+use Rattle.exact_num.specs.Multiples.{least_den}
 use Rattle.exact_num.proofs.Division.{below_fits, quotient_positive, size-positive}
 use Rattle.exact_num.proofs.Commons.{rest_den, den_step, den_misfit, den_end, whole_den}
 use Rattle.exact_num.proofs.denominators.least_common.Goals as goal
@@ -56,7 +56,7 @@ loop-x-preserved g c =
     let room_both : below c.args.bound ((to_z w128 c.loop-x.den-bits) *ℤ c.quotient.result) ≡ true = simp to_z-of_z at room in
     let f : unsigned_abs c.in-Some.both < c.args.bound = subst (λ z. unsigned_abs z < c.args.bound) (sym both) (below_fits c.args.bound ((to_z w128 c.loop-x.den-bits) *ℤ c.quotient.result) room_both) in
     let e : rest_den g.F.Fraction.value (unsigned_abs c.in-Some.both) (c.loop-x.x-index + 1) c.args.list.now ≡ least_den (map g.F.Fraction.value c.args.list.now) =
-        ap (λ z. rest_den g.F.Fraction.value (unsigned_abs z) (c.loop-x.x-index + 1) c.args.list.now) both ∙ den_step g.F.Fraction.value c.args.list.now c.loop-x.x-index c.x-item.result (to_z w128 c.loop-x.den-bits) c.common_divisor-g.result c.quotient.result c.loop-x-test.true c.x-item.is is whole ∙ c.loop-x.invariant.same in
+    ap (λ z. rest_den g.F.Fraction.value (unsigned_abs z) (c.loop-x.x-index + 1) c.args.list.now) both ∙ den_step g.F.Fraction.value c.args.list.now c.loop-x.x-index c.x-item.result (to_z w128 c.loop-x.den-bits) c.common_divisor-g.result c.quotient.result c.loop-x-test.true c.x-item.is is whole ∙ c.loop-x.invariant.same in
     record { positive = simp to_z-of_z p; fits = simp to_z-of_z f; same = simp to_z-of_z e }
 
 pub returns : goal.returns

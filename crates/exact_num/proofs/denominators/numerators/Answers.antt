@@ -1,4 +1,4 @@
-use Rattle.std.proofs.Common.{rules, arith, ◌≡◌, ◌∙◌, ◌+◌, ◌++◌, [], ◌∷◌, ap, sym, refl, subst, map, ◌*ℤ◌, unsigned_abs, true, false, SFits, to_z, to_z-of_z}
+use Rattle.std.proofs.Common.{rules, ◌≡◌, ◌∙◌, ◌+◌, ◌++◌, [], ◌∷◌, ap, sym, subst, map, ◌*ℤ◌, unsigned_abs, SFits, to_z-of_z}
 use Rattle.std.specs.List.{list_all}
 use Rattle.std.specs.Int.{w128, ◌∣◌}
 use Rattle.exact_num.specs.Work.{below}
@@ -52,7 +52,7 @@ loop-x-preserved g c =
     let more : Divides (unsigned_abs c.args.den) (from g.F.Fraction.value (c.loop-x.x-index + 1) c.args.list.now) = (divides_here g.F.Fraction.value (unsigned_abs c.args.den) c.loop-x.x-index c.args.list.now c.x-item.result c.loop-x-test.true c.x-item.is (simp to_z-of_z at divides)).1 in
     let step = nums_step g.F.Fraction.value c.args.list.now c.loop-x.x-index c.x-item.result c.args.den c.quotient-times.result c.loop-x-test.true c.x-item.is whole c.loop-x.nums.items (nums_over c.args.den (map g.F.Fraction.value c.args.list.now)) (simp to_z-of_z at sofar) in
     let whole_now : c.push.new.self.items ++ nums_over c.args.den (from g.F.Fraction.value (c.loop-x.x-index + 1) c.args.list.now) ≡ nums_over c.args.den (map g.F.Fraction.value c.args.list.now) =
-        ap (λ v. v ++ nums_over c.args.den (from g.F.Fraction.value (c.loop-x.x-index + 1) c.args.list.now)) (pushed ∙ ap (λ n. c.loop-x.nums.items ++ n ∷ []) num) ∙ step in
+    ap (λ v. v ++ nums_over c.args.den (from g.F.Fraction.value (c.loop-x.x-index + 1) c.args.list.now)) (pushed ∙ ap (λ n. c.loop-x.nums.items ++ n ∷ []) num) ∙ step in
     let fits_now = fits_step g.F.Fraction.value c.args.list.now c.loop-x.x-index c.x-item.result c.args.den c.quotient-times.result c.loop-x-test.true c.x-item.is whole c.args.bound (list_all (below c.args.bound) (nums_over c.args.den (map g.F.Fraction.value c.args.list.now))) (ap (λ z. below c.args.bound (z *ℤ c.quotient-times.result)) (sym top) ∙ (simp to_z-of_z at room)) (simp to_z-of_z at fits) in
     record { divides = simp to_z-of_z more; whole = simp to_z-of_z whole_now; fits = simp to_z-of_z fits_now }
 
@@ -60,8 +60,7 @@ pub returns : goal.returns
 returns g c =
     let fd : SFits w128 c.args.den = search rules in
     let sofar = c.loop-x.invariant.whole in
-    let fits = c.loop-x.invariant.fits in
-    (
+    let fits = c.loop-x.invariant.fits in (
       fits_end g.F.Fraction.value c.args.den c.loop-x.x-index c.args.list.now c.args.bound (list_all (below c.args.bound) (nums_over c.args.den (map g.F.Fraction.value c.args.list.now))) c.loop-x-test.false (simp to_z-of_z at fits),
       nums_end g.F.Fraction.value c.args.den c.loop-x.x-index c.args.list.now c.loop-x.nums.items (nums_over c.args.den (map g.F.Fraction.value c.args.list.now)) c.loop-x-test.false (simp to_z-of_z at sofar),
     )

@@ -1,4 +1,4 @@
-use Rattle.std.proofs.Common.{sym, ◌∙◌, ap, ◌*ℤ◌, rules, to_z, to_z-of_z, SFits, ◌≡◌}
+use Rattle.std.proofs.Common.{sym, ◌∙◌, ap, rules, to_z, to_z-of_z, SFits, ◌≡◌}
 use Rattle.std.specs.Int.{w128}
 use Rattle.std.specs.Ordering.{int_cmp}
 use Rattle.exact_num.specs.Cross.{int_cmp-scaled, cross_cmp}

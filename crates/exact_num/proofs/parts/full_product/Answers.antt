@@ -1,4 +1,4 @@
-use Rattle.std.proofs.Common.{rules, ◌≡◌, ◌∙◌, ap₂, sym, refl, subst, ◌*ℤ◌, SFits, to_z-of_z}
+use Rattle.std.proofs.Common.{rules, ◌≡◌, sym, subst, ◌*ℤ◌, SFits, to_z-of_z}
 use Rattle.std.specs.Int.{w128}
 use Rattle.exact_num.specs.Arith.{IsReduced}
 use Rattle.exact_num.proofs.Products.{AreProductSteps, product_found, product_fails_1, product_fails_2}
@@ -118,5 +118,8 @@ returns c =
     let en : c.in-Some.num ≡ c.quotient-a1.result *ℤ c.quotient-c1.result = simp to_z-of_z at hn in
     let em : c.in-Some-fitting_product.den ≡ c.quotient-b1.result *ℤ c.quotient-d1.result = simp to_z-of_z at hm in
     let found = product_found c.args.bound c.args.a c.args.b c.args.c c.args.d c.common_divisor-g.result c.common_divisor-h.result c.quotient-a1.result c.quotient-c1.result c.quotient-b1.result c.quotient-d1.result t c.requires.first c.requires.second (simp to_z-of_z at room_n) (simp to_z-of_z at room_m) in
-    simp to_z-of_z (found.0, subst (λ z. IsReduced c.args.bound z c.in-Some-fitting_product.den (c.args.a *ℤ c.args.c) (c.args.b *ℤ c.args.d)) (sym en)
-        (subst (λ z. IsReduced c.args.bound (c.quotient-a1.result *ℤ c.quotient-c1.result) z (c.args.a *ℤ c.args.c) (c.args.b *ℤ c.args.d)) (sym em) found.1))
+    simp to_z-of_z (
+      found.0,
+      subst (λ z. IsReduced c.args.bound z c.in-Some-fitting_product.den (c.args.a *ℤ c.args.c) (c.args.b *ℤ c.args.d)) (sym en)
+          (subst (λ z. IsReduced c.args.bound (c.quotient-a1.result *ℤ c.quotient-c1.result) z (c.args.a *ℤ c.args.c) (c.args.b *ℤ c.args.d)) (sym em) found.1),
+    )

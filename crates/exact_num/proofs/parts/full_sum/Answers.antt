@@ -1,4 +1,4 @@
-use Rattle.std.proofs.Common.{rules, ◌∙◌, ap₂, sym, refl, subst, ◌+ℤ◌, SFits, to_z-of_z, unsigned_abs}
+use Rattle.std.proofs.Common.{rules, ◌∙◌, ap₂, sym, refl, ◌+ℤ◌, SFits, to_z-of_z, unsigned_abs}
 use Rattle.std.proofs.Common.{ap, ◌*ℤ◌}
 use Rattle.std.specs.Int.{◌∣◌, w128}
 use Rattle.exact_num.proofs.Division.{AreSumSteps, sum_found, fails_1, fails_2, fails_3, fails_5}
@@ -170,6 +170,6 @@ returns c =
     let room_s = c.in-Some-fitting_sum.ensures.1 in
     let room_den = c.in-Some-fitting_product-2.ensures.1 in
     let found = sum_found c.args.bound c.args.a c.args.b c.args.c c.args.d c.common_divisor-g.result c.quotient-b1.result c.quotient-d1.result c.in-Some-fitting_sum.s c.common_divisor-h.result c.quotient-num.result c.quotient-d2.result c.in-Some-fitting_product-2.den t c.requires.first c.requires.second
-        (simp to_z-of_z at room_x) (simp to_z-of_z at room_y)
-        (ap (below c.args.bound) (simp to_z-of_z at hs) ∙ (simp to_z-of_z at room_s)) (ap (below c.args.bound) (simp to_z-of_z at hden) ∙ (simp to_z-of_z at room_den)) in
+    (simp to_z-of_z at room_x) (simp to_z-of_z at room_y)
+    (ap (below c.args.bound) (simp to_z-of_z at hs) ∙ (simp to_z-of_z at room_s)) (ap (below c.args.bound) (simp to_z-of_z at hden) ∙ (simp to_z-of_z at room_den)) in
     simp to_z-of_z found

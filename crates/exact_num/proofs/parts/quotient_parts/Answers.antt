@@ -1,7 +1,6 @@
-use Rattle.std.proofs.Common.{rules, arith, ◌≡◌, ◌∙◌, ap, sym, subst, SFits, of_z, to_z, to_z-of_z, ℤ, pos, ◌-ℤ◌, neg_ℤ}
+use Rattle.std.proofs.Common.{rules, arith, ◌≡◌, subst, SFits, to_z-of_z, ℤ, pos, ◌-ℤ◌, neg_ℤ}
 use Rattle.std.specs.Int.{w128}
 use Rattle.std.proofs.lemmas.Int.{ints}
-use Rattle.exact_num.specs.Q.{IsLow}
 use Rattle.exact_num.proofs.Settled.{low_negative, low_positive, quotient_negative, quotient_positive}
 use Rattle.exact_num.proofs.parts.quotient_parts.Goals as goal
 

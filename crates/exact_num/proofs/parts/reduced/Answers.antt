@@ -58,7 +58,9 @@ returns c =
     let short : c.unsigned_abs-den_size.result / c.gcd-g.result < 2 ^ 127 = omega arith in
     let same : to_z w128 (c.unsigned_abs-den_size.result / c.gcd-g.result) ≡ pos (c.unsigned_abs-den_size.result / c.gcd-g.result) = omega (arith, ints, short) in
     let hs = c.signed.ensures in
-    let es : c.signed.result ≡ sign_of c.args.num c.args.den (c.unsigned_abs-size.result / c.gcd-g.result) = simp to_z-of_z at hs in
-    (some, subst (λ z. IsReduced c.args.bound z (to_z w128 (c.unsigned_abs-den_size.result / c.gcd-g.result)) c.args.num c.args.den) (sym (to_z-of_z fs ∙ es))
-        (subst (λ z. IsReduced c.args.bound (sign_of c.args.num c.args.den (c.unsigned_abs-size.result / c.gcd-g.result)) z c.args.num c.args.den) (sym same)
-        (reduced_of c.args.bound c.args.num c.args.den c.gcd-g.result (c.unsigned_abs-size.result / c.gcd-g.result) (c.unsigned_abs-den_size.result / c.gcd-g.result) t c.if-n-bound.false c.if-d-bound.false)))
+    let es : c.signed.result ≡ sign_of c.args.num c.args.den (c.unsigned_abs-size.result / c.gcd-g.result) = simp to_z-of_z at hs in (
+      some,
+      subst (λ z. IsReduced c.args.bound z (to_z w128 (c.unsigned_abs-den_size.result / c.gcd-g.result)) c.args.num c.args.den) (sym (to_z-of_z fs ∙ es))
+          (subst (λ z. IsReduced c.args.bound (sign_of c.args.num c.args.den (c.unsigned_abs-size.result / c.gcd-g.result)) z c.args.num c.args.den) (sym same)
+          (reduced_of c.args.bound c.args.num c.args.den c.gcd-g.result (c.unsigned_abs-size.result / c.gcd-g.result) (c.unsigned_abs-den_size.result / c.gcd-g.result) t c.if-n-bound.false c.if-d-bound.false)),
+    )

@@ -1,4 +1,4 @@
-use Rattle.std.proofs.Common.{rules, subst, sym, to_z-of_z, SFits, ◌≡◌, ◌+ℤ◌, ◌*ℤ◌, pos}
+use Rattle.std.proofs.Common.{rules, subst, sym, to_z-of_z, SFits, ◌≡◌, ◌*ℤ◌, pos}
 use Rattle.exact_num.specs.Arith.{IsReduced}
 use Rattle.std.specs.Int.{w128}
 use Rattle.exact_num.proofs.Products.{whole_product_found, whole_product_fails}

@@ -1,15 +1,11 @@
-use Rattle.std.proofs.Common.{rules, arith, ◌≡◌, ◌^◌, ◌*ℤ◌, ◌+ℤ◌, ◌-ℤ◌, neg_ℤ, pos, unsigned_abs, ℤ, sym, ◌∙◌, ap, subst, SFits, to_z-of_z, [], ◌∷◌}
+use Rattle.std.proofs.Common.{rules, ◌^◌, SFits, to_z-of_z}
 use Rattle.std.specs.Int.{w64, w128}
 use Rattle.std.specs.List.{list_all}
-use Rattle.std.proofs.lemmas.Int.{ints}
-use Rattle.exact_num.specs.Q.{IsLow}
 use Rattle.exact_num.specs.Over.{over_self}
-use Rattle.exact_num.specs.Ops.{◌+ℚ◌, ◌*ℚ◌, neg_ℚ, inv_ℚ, *ℚ-over, neg-over, inv-over}
-use Rattle.exact_num.specs.Whole.{int_ℚ, int-over}
-use Rattle.exact_num.specs.Work.{below, sum_work, difference_work, product_work, quotient_work}
-use Rattle.exact_num.specs.Signs.{turned_num}
+use Rattle.exact_num.specs.Ops.{◌+ℚ◌}
+use Rattle.exact_num.specs.Work.{below, sum_work}
 use Rattle.exact_num.specs.Value64.{value_64}
-use Rattle.exact_num.proofs.Settled.{settled, sum-over, low_neg}
+use Rattle.exact_num.proofs.Settled.{settled, sum-over}
 use Rattle.exact_num.proofs.exact.Exact64Arith.add.Goals as goal
 
 pub returns : goal.returns
