@@ -1,7 +1,9 @@
 -- Fields and numbers: what is read is spelled so, and what is written is read.
-use Rattle.std.proofs.Common.{ℕ, ◌≡◌, ◌+◌, ◌^◌, ◌%◌, ◌<◌, ◌≤◌, arith, refl, sym, ◌∙◌, ap, zero, suc, Bool, true, false, cond, not, ◌&&◌, List, [], ◌∷◌, ◌++◌, map, length, inl, inr, length-append}
+use Rattle.std.proofs.Common.{ℕ, ◌≡◌, ◌+◌, ◌*◌, ◌^◌, ◌%◌, ◌<◌, ◌≤◌, arith, lit<, take, drop, get_or, refl, sym, ◌∙◌, ap, zero, suc, Bool, true, false, cond, not, ◌&&◌, List, [], ◌∷◌, ◌++◌, map, length, inl, inr, length-append}
 use Rattle.std.specs.Prelude.{◌==◌, nat_le, Option, Some, None, ℤ, pos, negsuc}
 use Rattle.std.specs.List.{list_all}
+use Rattle.std.proofs.lemmas.List.{take_all}
+use Rattle.std.proofs.Math.Nat.{pow-le-pow_right}
 use Rattle.std.specs.Str.{bytes_eq}
 use Rattle.std.specs.Str.Parse.{digits_value}
 use Rattle.std.specs.Fmt.{decimal, signed_decimal}
@@ -11,7 +13,7 @@ use Rattle.std.proofs.lemmas.List.Folds.{list_all-append}
 use Rattle.std.proofs.lemmas.Bool.{and_parts, and_from, not-true, not_from_false, eq-eqb, eqb-true, ne_eqb, true≢false, cases_Bool, le-leb, leb-true}
 use Rattle.std.proofs.lemmas.Option.{same_Some, none-some, cond_some}
 use Rattle.duality.specs.Sums.{is_small}
-use Rattle.cert_text.specs.Numbers.{onto, cut, joined, is_digit, is_natural, number_of, number_up_to, minus, plus, signed_of, opt_then, each_of}
+use Rattle.cert_text.specs.Numbers.{onto, lacks, cut, joined, is_digit, is_natural, number_of, number_up_to, minus, plus, signed_of, opt_then, each_of}
 
 -- ---- pieces
 
@@ -35,9 +37,6 @@ joined-cut sep (b ∷ bs) = elim (cases_Bool (b == sep)) [
   | inl between ↦ rw between (joined-first sep [] bs ∙ ap (λ x. sep ∷ x) (joined-cut sep bs) ∙ ap (λ c. c ∷ bs) (sym (eqb-true b sep between)))
   | inr plain ↦ rw plain (joined-onto sep b (cut sep bs) ∙ ap (λ x. b ∷ x) (joined-cut sep bs))
 ]
-
-abbrev pub lacks : ℕ → List ℕ → Bool
-lacks sep f = list_all (λ b. not (b == sep)) f
 
 cut-whole : (sep : ℕ) (f : List ℕ) → lacks sep f ≡ true → cut sep f ≡ f ∷ []
 cut-whole sep [] h = refl
@@ -220,3 +219,30 @@ all_weaker test weaker follows [] h = refl
 all_weaker test weaker follows (x ∷ xs) h =
     let parts = and_parts (test x) (list_all test xs) h in
     and_from (weaker x) (list_all weaker xs) (follows x parts.0) (all_weaker test weaker follows xs parts.1)
+
+-- ---- the first piece
+
+pub cut_all : (sep : ℕ) (bs : List ℕ) (n : ℕ) → n ≡ length bs → lacks sep (take n bs) ≡ true → cut sep bs ≡ bs ∷ []
+cut_all sep bs n e h = cut-whole sep bs (ap (lacks sep) (sym (take_all n bs (omega arith))) ∙ h)
+
+split_here : (bs : List ℕ) (n : ℕ) → n < length bs → bs ≡ take n bs ++ (get_or bs n 0 ∷ drop (n + 1) bs)
+split_here [] n l = absurd (omega arith)
+split_here (b ∷ bs) zero l = refl
+split_here (b ∷ bs) (suc n) l = let e : suc n + 1 ≡ suc (n + 1) = omega arith in rw e (ap (λ x. b ∷ x) (split_here bs n (omega arith)))
+
+pub split_at : (sep : ℕ) (bs : List ℕ) (n : ℕ) → n < length bs → get_or bs n 0 ≡ sep → bs ≡ take n bs ++ (sep ∷ drop (n + 1) bs)
+split_at sep bs n l e = split_here bs n l ∙ ap (λ b. take n bs ++ (b ∷ drop (n + 1) bs)) e
+
+pub cut_first : (sep : ℕ) (bs : List ℕ) (n : ℕ) → n < length bs → lacks sep (take n bs) ≡ true → get_or bs n 0 ≡ sep → cut sep bs ≡ take n bs ∷ cut sep (drop (n + 1) bs)
+cut_first sep bs n l h e = ap (cut sep) (split_at sep bs n l e) ∙ cut-before sep (take n bs) (drop (n + 1) bs) h
+
+-- ---- digits one after the other
+
+ten : (i : ℕ) → i < 25 → 10 ^ i ≤ 10 ^ 24
+ten i l = let h : i ≤ 24 = omega arith in pow-le-pow_right (lit< tt) h
+
+pub digit_fits : (n d i : ℕ) → n < 10 ^ i → i < 25 → d < 10 → n * 10 + d < 2 ^ 128
+digit_fits n d i h l e = omega (arith, ten i l)
+
+pub below_all : (n i : ℕ) → n < 10 ^ i → i ≤ 25 → n < 10 ^ 25
+below_all n i h l = let p : 10 ^ i ≤ 10 ^ 25 = pow-le-pow_right (lit< tt) l in omega arith

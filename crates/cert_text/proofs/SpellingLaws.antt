@@ -1,6 +1,6 @@
 -- Each line has one spelling, and the spelling is read.
 use Rattle.std.proofs.Common.{ℕ, ◌≡◌, ◌+◌, ◌^◌, ◌<◌, ◌≤◌, arith, refl, sym, ◌∙◌, ap, zero, suc, Bool, true, false, cond, not, ◌&&◌, List, [], ◌∷◌, ◌++◌, map, length, inl, inr, subst}
-use Rattle.std.specs.Prelude.{◌==◌, nat_le, if◌then◌else◌, Option, Some, None, ℤ, pos, negsuc, codes}
+use Rattle.std.specs.Prelude.{◌==◌, nat_le, if◌then◌else◌, Option, Some, None, ℤ, pos, negsuc, codes, option_map}
 use Rattle.std.specs.List.{list_all}
 use Rattle.std.specs.Str.{bytes_eq}
 use Rattle.std.specs.Fmt.{decimal, signed_decimal}
@@ -14,9 +14,9 @@ use Rattle.duality.specs.declared.leaf.Node.TheVariants.{Branch, Leaf as Closing
 use Rattle.duality.specs.Sums.{rises, is_small}
 use Rattle.cert_text.specs.declared.lines.CertLine.{CertLine}
 use Rattle.cert_text.specs.declared.lines.CertLine.TheVariants.{Head, Sizes, Choice, Values, Cuts, Cut, Level, Unfinished, Node, End}
-use Rattle.cert_text.specs.Numbers.{cut, joined, opt_then, number_of, signed_of, each_of}
-use Rattle.cert_text.specs.Spelling.{row_text, term_fields, leaf_fields, counted, fields_of, line_text, row_in_bounds, is_zero, term_in_bounds, scale_in_bounds, leaf_in_bounds, in_bounds, is_rising, small_number, value_of, row_named, row_of, terms_of, leaf_in, one, two, many, numbers_in, values_in, head_in, alone, line_in, line_of}
-use Rattle.cert_text.proofs.NumberLaws.{joined-cut, cut-joined, bytes_are, number_is, number_reads, opt_then_is, up_to_is, up_to_reads, signed_is, signed_reads, plain, decimal_plain, signed_plain_bytes, plain_lacks_blank, all_lack_blank, joined_lacks_feed, lacks, each_is, each_reads, each_plain, all_weaker}
+use Rattle.cert_text.specs.Numbers.{lacks, cut, joined, opt_then, number_of, signed_of, each_of}
+use Rattle.cert_text.specs.Spelling.{row_text, term_fields, leaf_fields, counted, fields_of, line_text, row_in_bounds, is_zero, term_in_bounds, scale_in_bounds, leaf_in_bounds, in_bounds, is_rising, small_number, value_of, row_named, row_of, terms_of, counted_terms, leaf_of, only_number, pair_of, as_many, counted_of, six_of, values_of, is_version, is_none, node_line, level_line, first_line, line_in, line_of}
+use Rattle.cert_text.proofs.NumberLaws.{joined-cut, cut-joined, bytes_are, number_is, number_reads, opt_then_is, up_to_is, up_to_reads, signed_is, signed_reads, plain, decimal_plain, signed_plain_bytes, plain_lacks_blank, all_lack_blank, joined_lacks_feed, each_is, each_reads, each_plain, all_weaker}
 
 -- ---- small numbers
 
@@ -32,17 +32,22 @@ all_small ns = list_all (λ n. nat_le n 200000) ns
 le_small : (m : ℕ) → m ≤ 200000 → (n : ℕ) → nat_le n m ≡ true → nat_le n 200000 ≡ true
 le_small m l n h = le-leb n 200000 (omega (arith, leb-true n m h))
 
-numbers_read : (make : List ℕ → Option CertLine) (ns : List ℕ) → all_small ns ≡ true → numbers_in make (map decimal ns) ≡ make ns
-numbers_read make ns h = ap (λ o. opt_then o make) (each_reads small_number decimal (λ n. nat_le n 200000) small_reads ns h)
-
 one_small : (m n : ℕ) → m ≤ 200000 → nat_le n m ≡ true → all_small (n ∷ []) ≡ true
 one_small m n l h = and_from (nat_le n 200000) true (le_small m l n h) refl
 
 counted_small : (m k : ℕ) (ns : List ℕ) → m ≤ 200000 → k ≤ 200000 → nat_le (length ns) m ≡ true → list_all (λ n. nat_le n k) ns ≡ true → all_small (length ns ∷ ns) ≡ true
 counted_small m k ns l j count each = and_from (nat_le (length ns) 200000) (all_small ns) (le_small m l (length ns) count) (all_weaker (λ n. nat_le n k) (λ n. nat_le n 200000) (le_small k j) ns each)
 
-many_reads : (make : List ℕ → CertLine) (ns : List ℕ) → many make (length ns ∷ ns) ≡ Some (make ns)
-many_reads make ns = rw (eq-eqb (length ns) (length ns) refl) refl
+numbers_read : (ns : List ℕ) → all_small ns ≡ true → each_of small_number (map decimal ns) ≡ Some ns
+numbers_read ns h = each_reads small_number decimal (λ n. nat_le n 200000) small_reads ns h
+
+only_reads : (m n : ℕ) → m ≤ 200000 → nat_le n m ≡ true → only_number (map decimal (n ∷ [])) ≡ Some n
+only_reads m n l h = small_reads n (le_small m l n h)
+
+counted_reads : (ns : List ℕ) → all_small (length ns ∷ ns) ≡ true → counted_of (counted ns) ≡ Some ns
+counted_reads ns h =
+    let parts = and_parts (nat_le (length ns) 200000) (all_small ns) h in
+    rw (small_reads (length ns) parts.0, numbers_read ns parts.1, eq-eqb (length ns) (length ns) refl) refl
 
 -- ---- values and leaves
 
@@ -124,10 +129,10 @@ terms_are (r ∷ (m ∷ fs)) ts h =
     ∙ ap (λ x. row_text a.0 ∷ (signed_decimal b.0 ∷ x)) (terms_are fs c.0 c.1)
     ∙ ap term_fields (same_Some (t ∷ c.0) ts c.2)
 
-abbrev leaf_of : ℤ → List Term → Leaf
-leaf_of d ts = record { scale = d; terms = ts }
+abbrev leaf_with : ℤ → List Term → Leaf
+leaf_with d ts = record { scale = d; terms = ts }
 
-leaf_read : (d : ℤ) (ts : List Term) → leaf_in_bounds (leaf_of d ts) ≡ true → leaf_in (leaf_fields (leaf_of d ts)) ≡ Some (Node (Closing (leaf_of d ts)))
+leaf_read : (d : ℤ) (ts : List Term) → leaf_in_bounds (leaf_with d ts) ≡ true → leaf_of (leaf_fields (leaf_with d ts)) ≡ Some (leaf_with d ts)
 leaf_read (negsuc n) ts h = absurd (true≢false (sym h))
 leaf_read (pos n) ts h =
     let parts = and_parts (nat_le n (10 ^ 24)) (nat_le (length ts) 5005 && (list_all term_in_bounds ts && rises ts)) h in
@@ -141,103 +146,130 @@ pub line_reads : (l : CertLine) → in_bounds l ≡ true → line_in (fields_of 
 line_reads Head h = refl
 line_reads (Sizes p r) h =
     let parts = and_parts (nat_le p 200000) (nat_le r 4000) h in
-    numbers_read two (p ∷ (r ∷ [])) (and_from (nat_le p 200000) (all_small (r ∷ [])) parts.0 (one_small 4000 r (omega arith) parts.1))
+    rw (small_reads p parts.0, small_reads r (le_small 4000 (omega arith) r parts.1)) refl
 line_reads (Choice es) h =
     let parts = and_parts (nat_le (length es) 4000) (list_all (λ entry. nat_le entry 200) es) h in
-    numbers_read (many Choice) (length es ∷ es) (counted_small 4000 200 es (omega arith) (omega arith) parts.0 parts.1) ∙ many_reads Choice es
+    ap (option_map Choice) (counted_reads es (counted_small 4000 200 es (omega arith) (omega arith) parts.0 parts.1))
 line_reads (Values vs) h =
     let parts = and_parts (length vs == 6) (list_all (is_small (10 ^ 12)) vs) h in
     rw (each_reads value_of signed_decimal (is_small (10 ^ 12)) value_reads vs parts.1, parts.0) refl
-line_reads (Cuts k) h = numbers_read (one Cuts) (k ∷ []) (one_small 1000 k (omega arith) h)
+line_reads (Cuts k) h = ap (option_map Cuts) (only_reads 1000 k (omega arith) h)
 line_reads (Cut ps) h =
     let parts = and_parts (nat_le 2 (length ps)) (nat_le (length ps) 1000 && (list_all (λ p. nat_le p 199999) ps && is_rising ps)) h in
     let count = and_parts (nat_le (length ps) 1000) (list_all (λ p. nat_le p 199999) ps && is_rising ps) parts.1 in
     let each = and_parts (list_all (λ p. nat_le p 199999) ps) (is_rising ps) count.1 in
-    numbers_read (many Cut) (length ps ∷ ps) (counted_small 1000 199999 ps (omega arith) (omega arith) count.0 each.0) ∙ many_reads Cut ps
-line_reads (Level j) h = numbers_read (one Level) (j ∷ []) (one_small 6 j (omega arith) h)
-line_reads (Unfinished j) h = numbers_read (one Unfinished) (j ∷ []) (one_small 6 j (omega arith) h)
-line_reads (Node (Branch p)) h = numbers_read (one (λ q. Node (Branch q))) (p ∷ []) (one_small 199999 p (omega arith) h)
-line_reads (Node (Closing leaf)) h = leaf_read leaf.scale leaf.terms h
+    ap (option_map Cut) (counted_reads ps (counted_small 1000 199999 ps (omega arith) (omega arith) count.0 each.0))
+line_reads (Level j) h = ap (option_map Level) (only_reads 6 j (omega arith) h)
+line_reads (Unfinished j) h = ap (option_map Unfinished) (only_reads 6 j (omega arith) h)
+line_reads (Node (Branch p)) h = ap (option_map (λ q. Node (Branch q))) (only_reads 199999 p (omega arith) h)
+line_reads (Node (Closing leaf)) h = ap (option_map (λ x. Node (Closing x))) (leaf_read leaf.scale leaf.terms h)
 line_reads (Node OpenEnd) h = refl
-line_reads (End n) h = numbers_read (one End) (n ∷ []) (one_small 6 n (omega arith) h)
+line_reads (End n) h = ap (option_map End) (only_reads 6 n (omega arith) h)
 
 abbrev Spelt : List (List ℕ) → Option CertLine → Type 0
 Spelt fs None = Unit {0}
 Spelt fs (Some l) = fs ≡ fields_of l
 
-spelt_from : (fs : List (List ℕ)) (o : Option CertLine) → ((l : CertLine) → o ≡ Some l → fs ≡ fields_of l) → Spelt fs o
-spelt_from fs None h = tt
-spelt_from fs (Some l) h = h l refl
+-- what the fields behind a word make
+made : {A : Type 0} (w : List ℕ) (make : A → CertLine) (write : A → List (List ℕ)) → ((x : A) → fields_of (make x) ≡ w ∷ write x) → (fs : List (List ℕ)) (o : Option A) → ((x : A) → o ≡ Some x → fs ≡ write x) → Spelt (w ∷ fs) (option_map make o)
+made w make write same fs None is = tt
+made w make write same fs (Some x) is = ap (λ gs. w ∷ gs) (is x refl) ∙ sym (same x)
 
--- what the numbers behind a word make
-numbers_are : (w : List ℕ) (make : List ℕ → Option CertLine) → ((ns : List ℕ) (l : CertLine) → make ns ≡ Some l → fields_of l ≡ w ∷ map decimal ns) → (fs : List (List ℕ)) → Spelt (w ∷ fs) (numbers_in make fs)
-numbers_are w make same fs = spelt_from (w ∷ fs) (numbers_in make fs) (λ l h.
-    let r = opt_then_is (each_of small_number fs) make l h in
-    ap (λ xs. w ∷ xs) (each_is small_number decimal (up_to_is 200000) fs r.0 r.1) ∙ sym (same r.0 l r.2))
+only_is : (fs : List (List ℕ)) (n : ℕ) → only_number fs ≡ Some n → fs ≡ map decimal (n ∷ [])
+only_is [] n h = absurd (none-some n h)
+only_is (f ∷ []) n h = ap (λ g. g ∷ []) (up_to_is 200000 f n h)
+only_is (f ∷ (g ∷ fs)) n h = absurd (none-some n h)
 
-one_is : (w : List ℕ) (make : ℕ → CertLine) → ((n : ℕ) → fields_of (make n) ≡ w ∷ (decimal n ∷ [])) → (ns : List ℕ) (l : CertLine) → one make ns ≡ Some l → fields_of l ≡ w ∷ map decimal ns
-one_is w make same [] l h = absurd (none-some l h)
-one_is w make same (n ∷ []) l h = ap fields_of (sym (same_Some (make n) l h)) ∙ same n
-one_is w make same (n ∷ (m ∷ ns)) l h = absurd (none-some l h)
+abbrev pair_fields : ℕ × ℕ → List (List ℕ)
+pair_fields p = map decimal (p.0 ∷ (p.1 ∷ []))
 
-two_is : (ns : List ℕ) (l : CertLine) → two ns ≡ Some l → fields_of l ≡ codes "model" ∷ map decimal ns
-two_is [] l h = absurd (none-some l h)
-two_is (n ∷ []) l h = absurd (none-some l h)
-two_is (n ∷ (m ∷ [])) l h = ap fields_of (sym (same_Some (Sizes n m) l h))
-two_is (n ∷ (m ∷ (k ∷ ns))) l h = absurd (none-some l h)
+pair_is : (fs : List (List ℕ)) (p : ℕ × ℕ) → pair_of fs ≡ Some p → fs ≡ pair_fields p
+pair_is [] p h = absurd (none-some p h)
+pair_is (f ∷ []) p h = absurd (none-some p h)
+pair_is (f ∷ (g ∷ [])) p h =
+    let a = opt_then_is (small_number f) (λ n. opt_then (small_number g) (λ m. Some (n, m))) p h in
+    let b = opt_then_is (small_number g) (λ m. Some (a.0, m)) p a.2 in
+    ap (λ x. x ∷ (g ∷ [])) (up_to_is 200000 f a.0 a.1) ∙ ap (λ x. decimal a.0 ∷ (x ∷ [])) (up_to_is 200000 g b.0 b.1) ∙ ap pair_fields (same_Some (a.0, b.0) p b.2)
+pair_is (f ∷ (g ∷ (k ∷ fs))) p h = absurd (none-some p h)
 
-many_is : (w : List ℕ) (make : List ℕ → CertLine) → ((ns : List ℕ) → fields_of (make ns) ≡ w ∷ map decimal (length ns ∷ ns)) → (ns : List ℕ) (l : CertLine) → many make ns ≡ Some l → fields_of l ≡ w ∷ map decimal ns
-many_is w make same [] l h = absurd (none-some l h)
-many_is w make same (n ∷ ns) l h =
-    let e = cond_some (n == length ns) (make ns) l h in
-    ap fields_of (sym e.1) ∙ same ns ∙ ap (λ k. w ∷ (decimal k ∷ map decimal ns)) (sym (eqb-true n (length ns) e.0))
+counted_is : (fs : List (List ℕ)) (ns : List ℕ) → counted_of fs ≡ Some ns → fs ≡ counted ns
+counted_is [] ns h = absurd (none-some ns h)
+counted_is (f ∷ fs) ns h = go (small_number f) (each_of small_number fs) refl refl h
+  where
+    go : (a : Option ℕ) (b : Option (List ℕ)) → a ≡ small_number f → b ≡ each_of small_number fs → as_many a b ≡ Some ns → f ∷ fs ≡ counted ns
+    go None b p q h = absurd (none-some ns h)
+    go (Some count) None p q h = absurd (none-some ns h)
+    go (Some count) (Some ms) p q h =
+        let e = cond_some (count == length ms) ms ns h in
+        ap (λ x. x ∷ fs) (up_to_is 200000 f count (sym p) ∙ ap decimal (eqb-true count (length ms) e.0))
+        ∙ ap (λ xs. decimal (length ms) ∷ xs) (each_is small_number decimal (up_to_is 200000) fs ms (sym q))
+        ∙ ap counted e.1
 
-values_are : (fs : List (List ℕ)) → Spelt (codes "values" ∷ fs) (values_in fs)
-values_are fs = spelt_from (codes "values" ∷ fs) (values_in fs) (λ l h.
-    let r = opt_then_is (each_of value_of fs) (λ vs. cond (length vs == 6) (Some (Values vs)) None) l h in
-    let e = cond_some (length r.0 == 6) (Values r.0) l r.2 in
-    ap (λ xs. codes "values" ∷ xs) (each_is value_of signed_decimal value_is fs r.0 r.1) ∙ ap fields_of e.1)
+values_are : (fs : List (List ℕ)) (vs : List ℤ) → values_of fs ≡ Some vs → fs ≡ map signed_decimal vs
+values_are fs vs h = go (each_of value_of fs) refl h
+  where
+    go : (o : Option (List ℤ)) → o ≡ each_of value_of fs → six_of o ≡ Some vs → fs ≡ map signed_decimal vs
+    go None p h = absurd (none-some vs h)
+    go (Some us) p h = each_is value_of signed_decimal value_is fs us (sym p) ∙ ap (map signed_decimal) (cond_some (length us == 6) us vs h).1
 
-leaf_is : (fs : List (List ℕ)) → Spelt (codes "leaf" ∷ fs) (leaf_in fs)
-leaf_is [] = tt
-leaf_is (d ∷ []) = tt
-leaf_is (d ∷ (t ∷ fs)) = spelt_from (codes "leaf" ∷ (d ∷ (t ∷ fs))) (leaf_in (d ∷ (t ∷ fs))) (λ l h.
-    let a = opt_then_is (number_of d) (λ n. opt_then (small_number t) (λ count. opt_then (terms_of fs) (λ ts. cond (count == length ts) (Some (Node (Closing (leaf_of (pos n) ts)))) None))) l h in
-    let b = opt_then_is (small_number t) (λ count. opt_then (terms_of fs) (λ ts. cond (count == length ts) (Some (Node (Closing (leaf_of (pos a.0) ts)))) None)) l a.2 in
-    let c = opt_then_is (terms_of fs) (λ ts. cond (b.0 == length ts) (Some (Node (Closing (leaf_of (pos a.0) ts)))) None) l b.2 in
-    let e = cond_some (b.0 == length c.0) (Node (Closing (leaf_of (pos a.0) c.0))) l c.2 in
-    ap (λ x. codes "leaf" ∷ (x ∷ (t ∷ fs))) (number_is d a.0 a.1)
-    ∙ ap (λ x. codes "leaf" ∷ (decimal a.0 ∷ (x ∷ fs))) (up_to_is 200000 t b.0 b.1 ∙ ap decimal (eqb-true b.0 (length c.0) e.0))
-    ∙ ap (λ xs. codes "leaf" ∷ (decimal a.0 ∷ (decimal (length c.0) ∷ xs))) (terms_are fs c.0 c.1)
-    ∙ ap fields_of e.1)
+leaf_is : (fs : List (List ℕ)) (leaf : Leaf) → leaf_of fs ≡ Some leaf → fs ≡ leaf_fields leaf
+leaf_is [] leaf h = absurd (none-some leaf h)
+leaf_is (d ∷ []) leaf h = absurd (none-some leaf h)
+leaf_is (d ∷ (t ∷ fs)) leaf h =
+    let a = opt_then_is (number_of d) (λ n. counted_terms (pos n) (small_number t) (terms_of fs)) leaf h in
+    ap (λ x. x ∷ (t ∷ fs)) (number_is d a.0 a.1) ∙ go a.0 (small_number t) (terms_of fs) refl refl a.2
+  where
+    go : (n : ℕ) (a : Option ℕ) (b : Option (List Term)) → a ≡ small_number t → b ≡ terms_of fs → counted_terms (pos n) a b ≡ Some leaf → decimal n ∷ (t ∷ fs) ≡ leaf_fields leaf
+    go n None b p q h = absurd (none-some leaf h)
+    go n (Some count) None p q h = absurd (none-some leaf h)
+    go n (Some count) (Some ts) p q h =
+        let e = cond_some (count == length ts) (leaf_with (pos n) ts) leaf h in
+        ap (λ x. decimal n ∷ (x ∷ fs)) (up_to_is 200000 t count (sym p) ∙ ap decimal (eqb-true count (length ts) e.0))
+        ∙ ap (λ xs. decimal n ∷ (decimal (length ts) ∷ xs)) (terms_are fs ts (sym q))
+        ∙ ap leaf_fields e.1
 
-head_is : (fs : List (List ℕ)) → Spelt (codes "rooms-certificate" ∷ fs) (head_in fs)
+head_is : (fs : List (List ℕ)) → Spelt (codes "rooms-certificate" ∷ fs) (cond (is_version fs) (Some Head) None)
 head_is [] = tt
 head_is (v ∷ []) = cond_both (bytes_eq v (codes "1")) (Some Head) None (Spelt (codes "rooms-certificate" ∷ (v ∷ []))) (λ e. ap (λ x. codes "rooms-certificate" ∷ (x ∷ [])) (bytes_are v (codes "1") e)) (λ e. tt)
 head_is (v ∷ (w ∷ fs)) = tt
 
-alone_is : (w : List ℕ) (line : CertLine) → fields_of line ≡ w ∷ [] → (fs : List (List ℕ)) → Spelt (w ∷ fs) (alone line fs)
-alone_is w line same [] = sym same
-alone_is w line same (f ∷ fs) = tt
+open_is : (fs : List (List ℕ)) → Spelt (codes "open" ∷ fs) (cond (is_none fs) (Some (Node OpenEnd)) None)
+open_is [] = refl
+open_is (f ∷ fs) = tt
 
 word : (w k : List ℕ) (fs : List (List ℕ)) (x y : Option CertLine) → Spelt (k ∷ fs) x → Spelt (w ∷ fs) y → Spelt (w ∷ fs) (cond (bytes_eq w k) x y)
 word w k fs x y p q = cond_both (bytes_eq w k) x y (Spelt (w ∷ fs)) (λ e. subst (λ v. Spelt (v ∷ fs) x) (sym (bytes_are w k e)) p) (λ e. q)
 
+one_line : (w : List ℕ) (make : ℕ → CertLine) → ((n : ℕ) → fields_of (make n) ≡ w ∷ map decimal (n ∷ [])) → (fs : List (List ℕ)) → Spelt (w ∷ fs) (option_map make (only_number fs))
+one_line w make same fs = made w make (λ n. map decimal (n ∷ [])) same fs (only_number fs) (only_is fs)
+
+many_line : (w : List ℕ) (make : List ℕ → CertLine) → ((ns : List ℕ) → fields_of (make ns) ≡ w ∷ counted ns) → (fs : List (List ℕ)) → Spelt (w ∷ fs) (option_map make (counted_of fs))
+many_line w make same fs = made w make counted same fs (counted_of fs) (counted_is fs)
+
+node_is : (w : List ℕ) (fs : List (List ℕ)) (other : Option CertLine) → Spelt (w ∷ fs) other → Spelt (w ∷ fs) (node_line w fs other)
+node_is w fs other h =
+    word w (codes "branch") fs _ _ (one_line (codes "branch") (λ p. Node (Branch p)) (λ n. refl) fs)
+    (word w (codes "leaf") fs _ _ (made (codes "leaf") (λ leaf. Node (Closing leaf)) leaf_fields (λ leaf. refl) fs (leaf_of fs) (leaf_is fs))
+    (word w (codes "open") fs _ _ (open_is fs)
+    (word w (codes "cut") fs _ _ (many_line (codes "cut") Cut (λ ns. refl) fs) h)))
+
+level_is : (w : List ℕ) (fs : List (List ℕ)) (other : Option CertLine) → Spelt (w ∷ fs) other → Spelt (w ∷ fs) (level_line w fs other)
+level_is w fs other h =
+    word w (codes "level") fs _ _ (one_line (codes "level") Level (λ n. refl) fs)
+    (word w (codes "unfinished") fs _ _ (one_line (codes "unfinished") Unfinished (λ n. refl) fs)
+    (word w (codes "end") fs _ _ (one_line (codes "end") End (λ n. refl) fs)
+    (word w (codes "cuts") fs _ _ (one_line (codes "cuts") Cuts (λ n. refl) fs) h)))
+
+first_is : (w : List ℕ) (fs : List (List ℕ)) (other : Option CertLine) → Spelt (w ∷ fs) other → Spelt (w ∷ fs) (first_line w fs other)
+first_is w fs other h =
+    word w (codes "rooms-certificate") fs _ _ (head_is fs)
+    (word w (codes "model") fs _ _ (made (codes "model") (λ p. Sizes p.0 p.1) pair_fields (λ p. refl) fs (pair_of fs) (pair_is fs))
+    (word w (codes "choice") fs _ _ (many_line (codes "choice") Choice (λ ns. refl) fs)
+    (word w (codes "values") fs _ _ (made (codes "values") Values (map signed_decimal) (λ vs. refl) fs (values_of fs) (values_are fs)) h)))
+
 line_is : (fs : List (List ℕ)) → Spelt fs (line_in fs)
 line_is [] = tt
-line_is (w ∷ fs) =
-    word w (codes "branch") fs _ _ (numbers_are (codes "branch") (one (λ p. Node (Branch p))) (one_is (codes "branch") (λ p. Node (Branch p)) (λ n. refl)) fs)
-    (word w (codes "leaf") fs _ _ (leaf_is fs)
-    (word w (codes "open") fs _ _ (alone_is (codes "open") (Node OpenEnd) refl fs)
-    (word w (codes "cut") fs _ _ (numbers_are (codes "cut") (many Cut) (many_is (codes "cut") Cut (λ ns. refl)) fs)
-    (word w (codes "level") fs _ _ (numbers_are (codes "level") (one Level) (one_is (codes "level") Level (λ n. refl)) fs)
-    (word w (codes "unfinished") fs _ _ (numbers_are (codes "unfinished") (one Unfinished) (one_is (codes "unfinished") Unfinished (λ n. refl)) fs)
-    (word w (codes "end") fs _ _ (numbers_are (codes "end") (one End) (one_is (codes "end") End (λ n. refl)) fs)
-    (word w (codes "rooms-certificate") fs _ _ (head_is fs)
-    (word w (codes "model") fs _ _ (numbers_are (codes "model") two two_is fs)
-    (word w (codes "choice") fs _ _ (numbers_are (codes "choice") (many Choice) (many_is (codes "choice") Choice (λ ns. refl)) fs)
-    (word w (codes "values") fs _ _ (values_are fs)
-    (word w (codes "cuts") fs _ _ (numbers_are (codes "cuts") (one Cuts) (one_is (codes "cuts") Cuts (λ n. refl)) fs) tt)))))))))))
+line_is (w ∷ fs) = node_is w fs _ (level_is w fs _ (first_is w fs None tt))
 
 -- a line that is read is spelled so, and is in its bounds
 pub line_of-is : (bytes : List ℕ) (l : CertLine) → line_of bytes ≡ Some l → (bytes ≡ line_text l) × (in_bounds l ≡ true)
@@ -279,7 +311,7 @@ is_line (Unfinished j) h = record { word = codes "unfinished"; rest = map decima
 is_line (Node (Branch p)) h = record { word = codes "branch"; rest = map decimal (p ∷ []); fields = refl; first = refl; others = numbers_plain (p ∷ []) (one_small 199999 p (omega arith) h) }
 is_line (Node (Closing leaf)) h = record { word = codes "leaf"; rest = leaf_fields leaf; fields = refl; first = refl; others = leaf_plain leaf.scale leaf.terms h }
   where
-    leaf_plain : (d : ℤ) (ts : List Term) → leaf_in_bounds (leaf_of d ts) ≡ true → list_all plain (leaf_fields (leaf_of d ts)) ≡ true
+    leaf_plain : (d : ℤ) (ts : List Term) → leaf_in_bounds (leaf_with d ts) ≡ true → list_all plain (leaf_fields (leaf_with d ts)) ≡ true
     leaf_plain (negsuc n) ts h = absurd (true≢false (sym h))
     leaf_plain (pos n) ts h =
         let parts = and_parts (nat_le n (10 ^ 24)) (nat_le (length ts) 5005 && (list_all term_in_bounds ts && rises ts)) h in

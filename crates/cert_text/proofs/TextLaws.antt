@@ -7,12 +7,12 @@ use Rattle.std.proofs.lemmas.Option.{same_Some, none-some}
 use Rattle.std.proofs.lemmas.List.Folds.{list_all-append}
 use Rattle.cert_text.specs.declared.lines.Certificate.{Certificate}
 use Rattle.cert_text.specs.declared.lines.CertLine.{CertLine}
-use Rattle.cert_text.specs.Numbers.{cut, onto, joined, opt_then}
+use Rattle.cert_text.specs.Numbers.{lacks, cut, onto, joined, opt_then}
 use Rattle.cert_text.specs.Spelling.{line_of, line_text, in_bounds}
 use Rattle.cert_text.specs.Grammar.{State, lines_of, step, and_then, runs, is_shaped, is_writable}
 use Rattle.cert_text.specs.Grammar.State.{Begun, Headed, Sized, Chosen, Valued, Cutting, Between, Inside, Loose, After, Over}
 use Rattle.cert_text.specs.Text.{fed, text_of, IsText, BeginsText, pieces_before, last_of, whole_lines, rest_of, IsFaultyLine, takes, read_over, read_end, read_from, certificate_of}
-use Rattle.cert_text.proofs.NumberLaws.{joined-cut, cut-before, lacks, opt_then_is}
+use Rattle.cert_text.proofs.NumberLaws.{joined-cut, cut-before, opt_then_is}
 use Rattle.cert_text.proofs.SpellingLaws.{line_of-is, line_of-reads, line_lacks_feed}
 use Rattle.cert_text.proofs.GrammarLaws.{lines_are, lines_read, read_shaped, begins_lines, finish}
 

@@ -2,3 +2,4 @@ pub mod Numbers
 pub mod Spelling
 pub mod Grammar
 pub mod Text
+pub mod Places

@@ -1,5 +1,5 @@
 -- How fields and numbers are spelled.
-use Rattle.std.specs.Prelude.{ℕ, ℤ, pos, negsuc, zero, suc, Bool, true, false, ◌&&◌, ◌==◌, nat_le, if◌then◌else◌, Option, Some, None, List, [], ◌∷◌, ◌++◌, length, map}
+use Rattle.std.specs.Prelude.{ℕ, ℤ, pos, negsuc, zero, suc, Bool, true, false, not, ◌&&◌, ◌==◌, nat_le, if◌then◌else◌, Option, Some, None, List, [], ◌∷◌, ◌++◌, length, map}
 use Rattle.std.specs.List.{list_all}
 use Rattle.std.specs.Str.{bytes_eq}
 use Rattle.std.specs.Str.Parse.{digits_value}
@@ -15,6 +15,10 @@ onto b (f ∷ fs) = (b ∷ f) ∷ fs
 abbrev pub cut : ℕ → List ℕ → List (List ℕ)
 cut sep [] = [] ∷ []
 cut sep (b ∷ bs) = if b == sep then [] ∷ cut sep bs else onto b (cut sep bs)
+
+-- none of the bytes is the separator
+abbrev pub lacks : ℕ → List ℕ → Bool
+lacks sep f = list_all (λ b. not (b == sep)) f
 
 abbrev pub joined : ℕ → List (List ℕ) → List ℕ
 joined sep [] = []

@@ -1,5 +1,5 @@
 -- How a line is spelled, and its bounds.
-use Rattle.std.specs.Prelude.{ℕ, ℤ, pos, negsuc, ◌^◌, zero, suc, Bool, true, false, ◌&&◌, ◌==◌, not, nat_le, nat_lt, if◌then◌else◌, Option, Some, None, List, [], ◌∷◌, ◌++◌, length, map, codes}
+use Rattle.std.specs.Prelude.{ℕ, ℤ, pos, negsuc, ◌^◌, zero, suc, Bool, true, false, ◌&&◌, ◌==◌, not, nat_le, nat_lt, if◌then◌else◌, Option, Some, None, List, [], ◌∷◌, ◌++◌, length, map, codes, option_map}
 use Rattle.std.specs.List.{list_all}
 use Rattle.std.specs.Str.{bytes_eq}
 use Rattle.std.specs.Fmt.{decimal, signed_decimal}
@@ -120,60 +120,84 @@ terms_of [] = Some []
 terms_of (r ∷ []) = None
 terms_of (r ∷ (m ∷ fields)) = opt_then (row_of r) (λ row. opt_then (signed_of m) (λ times. opt_then (terms_of fields) (λ ts. Some (record { row = row; times = times } ∷ ts))))
 
-abbrev pub leaf_in : List (List ℕ) → Option CertLine
-leaf_in [] = None
-leaf_in (d ∷ []) = None
-leaf_in (d ∷ (t ∷ fields)) =
-    opt_then (number_of d) (λ scale. opt_then (small_number t) (λ count. opt_then (terms_of fields) (λ ts.
-    if count == length ts then Some (Node (Closing (record { scale = pos scale; terms = ts }))) else None)))
+abbrev pub counted_terms : ℤ → Option ℕ → Option (List Term) → Option Leaf
+counted_terms scale (Some count) (Some ts) = if count == length ts then Some (record { scale = scale; terms = ts }) else None
+counted_terms scale count ts = None
 
-abbrev pub one : (ℕ → CertLine) → List ℕ → Option CertLine
-one make [] = None
-one make (n ∷ []) = Some (make n)
-one make (n ∷ (m ∷ ns)) = None
+-- a scale, the number of terms, and the terms
+abbrev pub leaf_of : List (List ℕ) → Option Leaf
+leaf_of [] = None
+leaf_of (d ∷ []) = None
+leaf_of (d ∷ (t ∷ fields)) = opt_then (number_of d) (λ scale. counted_terms (pos scale) (small_number t) (terms_of fields))
 
-abbrev pub two : List ℕ → Option CertLine
-two [] = None
-two (n ∷ []) = None
-two (n ∷ (m ∷ [])) = Some (Sizes n m)
-two (n ∷ (m ∷ (k ∷ ns))) = None
+-- one number
+abbrev pub only_number : List (List ℕ) → Option ℕ
+only_number [] = None
+only_number (f ∷ []) = small_number f
+only_number (f ∷ (g ∷ fields)) = None
 
--- a number and as many more
-abbrev pub many : (List ℕ → CertLine) → List ℕ → Option CertLine
-many make [] = None
-many make (count ∷ ns) = if count == length ns then Some (make ns) else None
+-- two numbers
+abbrev pub pair_of : List (List ℕ) → Option (ℕ × ℕ)
+pair_of [] = None
+pair_of (f ∷ []) = None
+pair_of (f ∷ (g ∷ [])) = opt_then (small_number f) (λ n. opt_then (small_number g) (λ m. Some (n, m)))
+pair_of (f ∷ (g ∷ (h ∷ fields))) = None
 
-abbrev pub numbers_in : (List ℕ → Option CertLine) → List (List ℕ) → Option CertLine
-numbers_in make fields = opt_then (each_of small_number fields) make
+abbrev pub as_many : Option ℕ → Option (List ℕ) → Option (List ℕ)
+as_many (Some count) (Some ns) = if count == length ns then Some ns else None
+as_many count ns = None
 
-abbrev pub values_in : List (List ℕ) → Option CertLine
-values_in fields = opt_then (each_of value_of fields) (λ vs. if length vs == 6 then Some (Values vs) else None)
+-- a number, and as many more
+abbrev pub counted_of : List (List ℕ) → Option (List ℕ)
+counted_of [] = None
+counted_of (f ∷ fields) = as_many (small_number f) (each_of small_number fields)
 
-abbrev pub head_in : List (List ℕ) → Option CertLine
-head_in [] = None
-head_in (v ∷ []) = if bytes_eq v (codes "1") then Some Head else None
-head_in (v ∷ (w ∷ fs)) = None
+abbrev pub six_of : Option (List ℤ) → Option (List ℤ)
+six_of None = None
+six_of (Some vs) = if length vs == 6 then Some vs else None
 
-abbrev pub alone : CertLine → List (List ℕ) → Option CertLine
-alone line [] = Some line
-alone line (f ∷ fs) = None
+abbrev pub values_of : List (List ℕ) → Option (List ℤ)
+values_of fields = six_of (each_of value_of fields)
+
+abbrev pub is_version : List (List ℕ) → Bool
+is_version [] = false
+is_version (v ∷ []) = bytes_eq v (codes "1")
+is_version (v ∷ (w ∷ fs)) = false
+
+abbrev pub is_none : List (List ℕ) → Bool
+is_none [] = true
+is_none (f ∷ fs) = false
+
+-- the lines of a tree and the cuts; for another word, something else
+abbrev pub node_line : List ℕ → List (List ℕ) → Option CertLine → Option CertLine
+node_line w fs other =
+    if bytes_eq w (codes "branch") then option_map (λ p. Node (Branch p)) (only_number fs)
+    else (if bytes_eq w (codes "leaf") then option_map (λ leaf. Node (Closing leaf)) (leaf_of fs)
+    else (if bytes_eq w (codes "open") then (if is_none fs then Some (Node OpenEnd) else None)
+    else (if bytes_eq w (codes "cut") then option_map Cut (counted_of fs)
+    else other)))
+
+-- the lines around the trees
+abbrev pub level_line : List ℕ → List (List ℕ) → Option CertLine → Option CertLine
+level_line w fs other =
+    if bytes_eq w (codes "level") then option_map Level (only_number fs)
+    else (if bytes_eq w (codes "unfinished") then option_map Unfinished (only_number fs)
+    else (if bytes_eq w (codes "end") then option_map End (only_number fs)
+    else (if bytes_eq w (codes "cuts") then option_map Cuts (only_number fs)
+    else other)))
+
+-- the lines at the beginning
+abbrev pub first_line : List ℕ → List (List ℕ) → Option CertLine → Option CertLine
+first_line w fs other =
+    if bytes_eq w (codes "rooms-certificate") then (if is_version fs then Some Head else None)
+    else (if bytes_eq w (codes "model") then option_map (λ p. Sizes p.0 p.1) (pair_of fs)
+    else (if bytes_eq w (codes "choice") then option_map Choice (counted_of fs)
+    else (if bytes_eq w (codes "values") then option_map Values (values_of fs)
+    else other)))
 
 abbrev pub line_in : List (List ℕ) → Option CertLine
 line_in [] = None
-line_in (w ∷ fs) =
-    if bytes_eq w (codes "branch") then numbers_in (one (λ p. Node (Branch p))) fs
-    else (if bytes_eq w (codes "leaf") then leaf_in fs
-    else (if bytes_eq w (codes "open") then alone (Node OpenEnd) fs
-    else (if bytes_eq w (codes "cut") then numbers_in (many Cut) fs
-    else (if bytes_eq w (codes "level") then numbers_in (one Level) fs
-    else (if bytes_eq w (codes "unfinished") then numbers_in (one Unfinished) fs
-    else (if bytes_eq w (codes "end") then numbers_in (one End) fs
-    else (if bytes_eq w (codes "rooms-certificate") then head_in fs
-    else (if bytes_eq w (codes "model") then numbers_in two fs
-    else (if bytes_eq w (codes "choice") then numbers_in (many Choice) fs
-    else (if bytes_eq w (codes "values") then values_in fs
-    else (if bytes_eq w (codes "cuts") then numbers_in (one Cuts) fs
-    else None)))))))))))
+line_in (w ∷ fs) = node_line w fs (level_line w fs (first_line w fs None))
 
 -- the line that the bytes spell
 abbrev pub line_of : List ℕ → Option CertLine
