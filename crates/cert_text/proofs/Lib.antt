@@ -1,0 +1,4 @@
+pub mod NumberLaws
+pub mod SpellingLaws
+pub mod GrammarLaws
+pub mod TextLaws

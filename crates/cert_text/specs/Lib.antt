@@ -1,0 +1,5 @@
+pub mod Numbers
+pub mod Spelling
+pub mod Grammar
+pub mod Text
+pub mod Places

@@ -1,0 +1,14 @@
+//! The text of a certificate: its lines, their spelling, which line may follow which, a writer and a reader.
+#![tactic(auto)]
+
+mod bounds;
+mod fields;
+mod laws;
+mod lines;
+mod numbers;
+mod place;
+
+pub use duality::Node;
+pub use laws::{line_laws, text_laws};
+pub use lines::{CertLine, Certificate, Tree};
+pub use place::{Place, step};
