@@ -1,15 +1,19 @@
 -- Well formed parts within the limits are as every problem keeps them.
-use Rattle.std.proofs.Common.{ℕ, ◌≡◌, ◌+◌, ◌<◌, ◌≤◌, inl, inr, zero, suc, Bool, true, false, not, ◌&&◌, arith, sym, ◌∙◌, List, [], ◌∷◌, length}
+use Rattle.std.proofs.Common.{ℕ, ◌≡◌, ◌+◌, ◌<◌, ◌≤◌, inl, inr, zero, suc, Bool, true, false, not, ◌&&◌, arith, sym, ◌∙◌, List, [], ◌∷◌, length, ap, ◌-◌}
 use Rattle.std.specs.Prelude.{ℤ, pos, negsuc, ◌≤ℤ◌, ◌==◌, nat_lt, nat_le, int_lt, Some, None}
 use Rattle.std.specs.List.{list_all, All, AllPairs, AllByRecursion}
-use Rattle.std.proofs.lemmas.Bool.{and_parts, or_cases, not-true, eqb-true, leb-true, ltb-true, ltb-false, true≢false, cases_Bool, cond-true, cond-false, eq-eqb}
+use Rattle.std.proofs.lemmas.Bool.{and_parts, cases_Bool, cond-false, cond-true, cond_both, eq-eqb, eqb-true, le-ltb, leb-true, lt-ltb, ltb-false, ltb-true, ne_eqb, not-true, or_cases, true≢false}
 use Rattle.std.proofs.lemmas.Int.{ints}
-use Rattle.std.proofs.lemmas.List.{length-map}
+use mir.Syntax.{w32}
+use mir.Val.{to_z, of_z}
 use Rattle.problem_core.specs.Below.{none_passes}
-use Rattle.problem_core.specs.OfParts.{facts_of, event_of, well_formed, lists_fit, numbers_fit, events_fit, wishes_fit, all_pairs, is_million, is_features, event_fits, are_apart, events_agree, pair_fits, is_points, preference_fits, preferences_differ, row_fits, rows_rise}
-use Rattle.problem_core.specs.Kept.{AreKept, EventFits, AreApart, IsWithin}
+use Rattle.problem_core.specs.OfParts.{facts_of, well_formed, lists_fit, numbers_fit, events_fit, wishes_fit, all_pairs, is_million, is_features, event_fits, are_apart, events_agree, pair_fits, is_points, preference_fits, preferences_differ, row_fits, rows_rise}
+use Rattle.problem_core.specs.Kept.{AreFit, EventFits, AreApart, IsWithin}
 use Rattle.problem_core.specs.Limits.{limit_of, crowded_course, course_limit}
 use Rattle.problem_core.specs.Courses.{meetings_of}
+use Rattle.problem_core.specs.Facts.{Facts}
+use Rattle.problem_core.specs.Measures.{points_of}
+use Rattle.problem_core.specs.declared.limit.LimitKind.TheVariants.{Meetings, CourseMeetings}
 use Rattle.problem_core.specs.declared.parts.Parts.{Parts}
 use Rattle.problem_core.specs.declared.parts.EventPart.{EventPart}
 
@@ -119,7 +123,7 @@ record WishesFit (p : Parts) : Type 0 where
   denied : All (λ x. (x.0 < length p.students) × (x.1 < length p.capacity)) p.denied
   closed : All (λ x. (x.0 < length p.capacity) × (x.1 < p.slots)) p.closed
   prefer : All (λ x. (x.0 < length p.students) × (x.1 < length p.capacity)) p.prefer
-  points : AllByRecursion (λ x. IsWithin (pos 1000000) x.2) p.prefer
+  points : All (λ x. IsWithin (pos 1000000) x.2) p.prefer
   rows : AllByRecursion (λ x. IsWithin (pos 1000000) x.1) p.robust
 
 wishes_from : (p : Parts) → wishes_fit p ≡ true → WishesFit p
@@ -140,7 +144,7 @@ wishes_from p h =
       denied = all_from (pair_fits courses rooms) (λ x. (x.0 < courses) × (x.1 < rooms)) (pair_from courses rooms) p.denied one.0;
       closed = all_from (pair_fits rooms p.slots) (λ x. (x.0 < rooms) × (x.1 < p.slots)) (pair_from rooms p.slots) p.closed one.1;
       prefer = all_from (preference_fits courses rooms) (λ x. (x.0 < courses) × (x.1 < rooms)) (preference_from courses rooms) p.prefer two.1;
-      points = each_from (preference_fits courses rooms) (λ x. IsWithin (pos 1000000) x.2)
+      points = all_from (preference_fits courses rooms) (λ x. IsWithin (pos 1000000) x.2)
           (λ x k. points_from x.2 (and_parts (nat_lt x.0 courses && nat_lt x.1 rooms) (is_points x.2) k).1) p.prefer two.1;
       rows = each_from row_fits (λ x. IsWithin (pos 1000000) x.1) (λ x k. points_from x.1 (and_parts (nat_le x.0 1000) (is_points x.1) k).1) p.robust four.1;
     }
@@ -151,20 +155,11 @@ no_course p h = elim (cases_Bool (crowded_course (facts_of p) == 0)) [
   | inr found ↦ let e = sym (cond-false (crowded_course (facts_of p) == 0) None _ found) ∙ h in absurd (cc)
 ]
 
-limits_from : (p : Parts) → limit_of (facts_of p) ≡ None → (length p.events ≤ 4000) × ((c : ℕ) → c < length p.students → meetings_of (facts_of p) c ≤ 12)
-limits_from p h =
-    let big = nat_lt 4000 (length (facts_of p).events) in
-    elim (cases_Bool big) [
-      | inl over ↦ let e = sym (cond-true big (Some _) (course_limit (facts_of p) (crowded_course (facts_of p))) over) ∙ h in absurd (cc)
-      | inr within ↦
-          let rest : course_limit (facts_of p) (crowded_course (facts_of p)) ≡ None = sym (cond-false big _ (course_limit (facts_of p) (crowded_course (facts_of p))) within) ∙ h in
-          let few : length (facts_of p).events ≤ 4000 = ltb-false 4000 _ within in
-          let none = no_course p rest in
-          (omega (arith, length-map p.events event_of, few), λ c l. ltb-false 12 _ (none_passes (λ c. nat_lt 12 (meetings_of (facts_of p) c)) 0 (length p.students) c none (omega arith) (omega arith)))
-    ]
+pub few_of_course : (p : Parts) → course_limit (facts_of p) (crowded_course (facts_of p)) ≡ None → (c : ℕ) → c < length p.students → meetings_of (facts_of p) c ≤ 12
+few_of_course p h c l = ltb-false 12 _ (none_passes (λ c. nat_lt 12 (meetings_of (facts_of p) c)) 0 (length p.students) c (no_course p h) (omega arith) (omega arith))
 
-pub AreKept-well_formed : (p : Parts) → well_formed p ≡ true → limit_of (facts_of p) ≡ None → AreKept p
-AreKept-well_formed p h none =
+pub AreFit-well_formed : (p : Parts) → well_formed p ≡ true → AreFit p
+AreFit-well_formed p h =
     let one = and_parts (lists_fit p && numbers_fit p && events_fit p) (wishes_fit p) h in
     let two = and_parts (lists_fit p && numbers_fit p) (events_fit p) one.0 in
     let three = and_parts (lists_fit p) (numbers_fit p) two.0 in
@@ -172,7 +167,6 @@ AreKept-well_formed p h none =
     let numbers = numbers_from p three.1 in
     let events = and_parts (list_all (event_fits (length p.students) p.slots) p.events) (all_pairs events_agree p.events) two.1 in
     let wishes = wishes_from p one.1 in
-    let few = limits_from p none in
     record {
       needs = lists.needs;
       features = lists.features;
@@ -180,8 +174,6 @@ AreKept-well_formed p h none =
       few_rooms = lists.few_rooms;
       few_slots = lists.few_slots;
       few_rows = lists.few_rows;
-      few_events = few.0;
-      few_of_course = few.1;
       students = numbers.0;
       capacity = numbers.1;
       events = all_from (event_fits (length p.students) p.slots) (EventFits (length p.students) p.slots) (event_from (length p.students) p.slots) p.events events.0;
@@ -192,3 +184,30 @@ AreKept-well_formed p h none =
       points = wishes.points;
       rows = wishes.rows;
     }
+
+pub limit-at : (p : Facts) (course count : ℕ) → count ≡ meetings_of p course → Some (record { kind = CourseMeetings; count = count; limit = 12 }) ≡ course_limit p (course + 1)
+limit-at p course count e =
+    let back : course + 1 - 1 ≡ course = omega arith in
+    sym (cond-false (course + 1 == 0) None (Some (record { kind = CourseMeetings; count = meetings_of p (course + 1 - 1); limit = 12 })) (ne_eqb (course + 1) 0 (λ z. absurd (omega arith)))
+    ∙ ap (λ n. Some (record { kind = CourseMeetings; count = n; limit = 12 })) (ap (meetings_of p) back ∙ sym e))
+
+pub limit-none : (p : Facts) (found : ℕ) → found ≡ 0 → None ≡ course_limit p found
+limit-none p found e = sym (cond-true (found == 0) None (Some (record { kind = CourseMeetings; count = meetings_of p (found - 1); limit = 12 })) (eq-eqb found 0 e))
+
+pub limit-meetings : (p : Facts) (n : ℕ) → n ≡ length p.events → 4000 < n → Some (record { kind = Meetings; count = n; limit = 4000 }) ≡ limit_of p
+limit-meetings p n e l =
+    sym (cond-true (nat_lt 4000 (length p.events)) (Some (record { kind = Meetings; count = length p.events; limit = 4000 })) (course_limit p (crowded_course p)) (lt-ltb 4000 (length p.events) (omega arith))
+    ∙ ap (λ m. Some (record { kind = Meetings; count = m; limit = 4000 })) (sym e))
+
+pub limit-course : (p : Facts) (n : ℕ) → n ≡ length p.events → n ≤ 4000 → course_limit p (crowded_course p) ≡ limit_of p
+limit-course p n e l = sym (cond-false (nat_lt 4000 (length p.events)) (Some (record { kind = Meetings; count = length p.events; limit = 4000 })) (course_limit p (crowded_course p)) (le-ltb 4000 (length p.events) (omega arith)))
+
+pub points_within : (c r : ℕ) (xs : List (ℕ × ℕ × ℤ)) → All (λ x. IsWithin (pos 1000000) x.2) xs → IsWithin (pos 1000000) (points_of c r xs)
+points_within c r [] h = record { low = omega (arith, ints); high = omega (arith, ints) }
+points_within c r (x ∷ xs) h =
+    cond_both ((x.0 == c) && (x.1 == r)) x.2 (points_of c r xs) (IsWithin (pos 1000000)) (λ _. h 0 (0, 0, pos 0) (omega arith))
+    (λ _. points_within c r xs (λ k d l. h (suc k) d (omega arith)))
+
+-- points as the code holds them
+pub points_same : (x : ℤ) → IsWithin (pos 1000000) x → to_z w32 (of_z w32 x) ≡ x
+points_same x h = omega (arith, ints, h.low, h.high)

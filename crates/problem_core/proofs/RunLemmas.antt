@@ -1,5 +1,5 @@
 -- Slots in a row, a step at a time.
-use Rattle.std.proofs.Common.{ℕ, ◌≤◌, sym, ◌≡◌, ◌+◌, ◌-◌, ◌<◌, zero, suc, Bool, false, refl, arith, ◌||◌, ◌&&◌, List, [], ◌∷◌, ◌∙◌}
+use Rattle.std.proofs.Common.{length, ap, ℕ, ◌≤◌, sym, ◌≡◌, ◌+◌, ◌-◌, ◌<◌, zero, suc, Bool, false, refl, arith, ◌||◌, ◌&&◌, List, [], ◌∷◌, ◌∙◌}
 use Rattle.std.specs.Prelude.{◌==◌, nat_le, nat_lt}
 use Rattle.std.proofs.lemmas.Bool.{le-ltb}
 use Rattle.std.proofs.lemmas.Bool.Decides.{nat_tests}
@@ -42,3 +42,7 @@ runs_meet-before a n b m s t l = sym (runs_meet a n b m ∙ both_tests a n b m s
 
 pub runs_meet-after : (a n b m : ℕ) → b + m ≤ a → nat_lt a (b + m) ≡ list_any (λ s. list_any (λ t. t == s) (run_of b m)) (run_of a n)
 runs_meet-after a n b m l = le-ltb a (b + m) l ∙ sym (runs_meet a n b m ∙ no_test a n b m l)
+
+pub length-run_of : (s n : ℕ) → length (run_of s n) ≡ n
+length-run_of s zero = refl
+length-run_of s (suc n) = ap (λ m. suc m) (length-run_of (s + 1) n)

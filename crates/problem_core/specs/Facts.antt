@@ -60,9 +60,13 @@ is_closed p r s = list_any (is_pair r s) p.closed
 abbrev pub has_features : Facts → ℕ → ℕ → Bool
 has_features p c r = bit_and (slice_index p.needs c) (slice_index p.features r) == slice_index p.needs c
 
--- the room seats the course, has what it needs, and isn't denied to it
+-- the room seats the course and has what it needs
+abbrev pub seats : Facts → ℕ → ℕ → Bool
+seats p c r = nat_le (slice_index p.students c) (capacity_of p r) && has_features p c r
+
+-- and isn't denied to it
 abbrev pub admits : Facts → ℕ → ℕ → Bool
-admits p c r = nat_le (slice_index p.students c) (capacity_of p r) && has_features p c r && not (is_denied p c r)
+admits p c r = seats p c r && not (is_denied p c r)
 
 -- the room admits the event's course, and is closed in none of its slots
 abbrev pub suits : Facts → ℕ → ℕ → Bool

@@ -20,15 +20,13 @@ pub record EventFits (courses slots : ℕ) (e : EventPart) : Type 0 where
 abbrev pub AreApart : EventPart → EventPart → Type 0
 AreApart e f = e.course ≡ f.course → (e.length ≡ f.length) × ((e.slot + e.length ≤ f.slot) ⊎ (f.slot + f.length ≤ e.slot))
 
-pub record AreKept (p : Parts) : Type 0 where
+pub record AreFit (p : Parts) : Type 0 where
   pub needs : length p.needs ≡ length p.students
   pub features : length p.features ≡ length p.capacity
   pub few_courses : length p.students ≤ 1000
   pub few_rooms : length p.capacity ≤ 200
   pub few_slots : p.slots ≤ 672
   pub few_rows : length p.robust ≤ 100
-  pub few_events : length p.events ≤ 4000
-  pub few_of_course : (c : ℕ) → c < length p.students → meetings_of (facts_of p) c ≤ 12
   pub students : All (λ n. n ≤ 1000000) p.students
   pub capacity : All (λ n. n ≤ 1000000) p.capacity
   pub events : All (EventFits (length p.students) p.slots) p.events
@@ -36,5 +34,11 @@ pub record AreKept (p : Parts) : Type 0 where
   pub denied : All (λ x. (x.0 < length p.students) × (x.1 < length p.capacity)) p.denied
   pub closed : All (λ x. (x.0 < length p.capacity) × (x.1 < p.slots)) p.closed
   pub prefer : All (λ x. (x.0 < length p.students) × (x.1 < length p.capacity)) p.prefer
-  pub points : AllByRecursion (λ x. IsWithin (pos 1000000) x.2) p.prefer
+  pub points : All (λ x. IsWithin (pos 1000000) x.2) p.prefer
   pub rows : AllByRecursion (λ x. IsWithin (pos 1000000) x.1) p.robust
+
+-- and the two limits on meetings
+pub record AreKept (p : Parts) : Type 0 where
+  pub fit : AreFit p
+  pub few_events : length p.events ≤ 4000
+  pub few_of_course : (c : ℕ) → c < length p.students → meetings_of (facts_of p) c ≤ 12

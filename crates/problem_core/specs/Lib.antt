@@ -5,6 +5,12 @@ pub mod Measures
 pub mod FirstChoice
 pub mod Faults
 pub mod Courses
+pub mod Tables
+pub mod Taken
+pub mod Grids
 pub mod OfParts
 pub mod Limits
 pub mod Kept
+pub mod Sums
+pub mod SharedSlots
+pub mod Rows

@@ -1,5 +1,6 @@
 -- The six measures of a choice, and what it means to be best.
-use Rattle.std.specs.Prelude.{ℕ, ℤ, pos, negsuc, ◌≡◌, ◌-◌, ◌*◌, ◌/◌, ◌<◌, ◌≤◌, ◌≤ℤ◌, ◌&&◌, ◌==◌, Bool, nat_le, if◌then◌else◌, List, [], ◌∷◌, length}
+use Rattle.std.specs.Prelude.{slice_index_or, ℕ, ℤ, pos, negsuc, ◌≡◌, ◌-◌, ◌*◌, ◌/◌, ◌<◌, ◌≤◌, ◌≤ℤ◌, ◌&&◌, ◌==◌, Bool, not, nat_le, int_lt, if◌then◌else◌, List, [], ◌∷◌, length}
+use Rattle.std.specs.Ordering.{int_eq}
 use Rattle.numbers.specs.Below.{any_below}
 use Rattle.numbers.specs.Sums.{sum_below}
 use Rattle.problem_core.specs.Facts.{Facts, course_of, students_of, hours_of, capacity_of}
@@ -32,16 +33,32 @@ gain p k e r =
 abbrev pub meets_there : Facts → List ℕ → ℕ → ℕ → ℕ → Bool
 meets_there p a c x f = (course_of p f == c) && (entry a f == x)
 
+-- no earlier event of the same course has the room of event e
+abbrev pub is_new_room : Facts → List ℕ → ℕ → Bool
+is_new_room p a e = not (any_below (meets_there p a (course_of p e) (entry a e)) e)
+
 -- what event e adds to measure k of the choice; measure 5 counts, negated, the events with a room
--- for which no earlier event of the same course has that room
+-- that no earlier event of the same course has
 abbrev pub gained : Facts → ℕ → List ℕ → ℕ → ℤ
 gained p k a e =
     if entry a e == 0 then pos 0
-    else (if k == 5 then (if any_below (meets_there p a (course_of p e) (entry a e)) e then pos 0 else negsuc 0)
+    else (if k == 5 then (if is_new_room p a e then negsuc 0 else pos 0)
     else gain p k e (entry a e - 1))
 
 abbrev pub measure : Facts → ℕ → List ℕ → ℤ
 measure p k a = sum_below (gained p k a) (length a)
+
+-- the six measures
+abbrev pub measures : Facts → List ℕ → List ℤ
+measures p a = measure p 1 a ∷ measure p 2 a ∷ measure p 3 a ∷ measure p 4 a ∷ measure p 5 a ∷ measure p 6 a ∷ []
+
+abbrev pub differ_at : List ℤ → List ℤ → ℕ → Bool
+differ_at a b k = not (int_eq (slice_index_or a k (pos 0)) (slice_index_or b k (pos 0)))
+
+-- a and b agree below the level, and a is greater at it; level k stands at place k - 1
+abbrev pub is_better : ℕ → List ℤ → List ℤ → Bool
+is_better level a b =
+    not (any_below (differ_at a b) (level - 1)) && int_lt (slice_index_or b (level - 1) (pos 0)) (slice_index_or a (level - 1) (pos 0))
 
 -- b has the measures of a below k
 abbrev pub SameBelow : Facts → ℕ → List ℕ → List ℕ → Type 0

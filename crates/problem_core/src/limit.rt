@@ -1,4 +1,8 @@
+ghost use Rattle.std.specs.Prelude.{◌≡◌};
+ghost use Rattle.problem_core.specs.declared.limit.BuildFault.TheVariants.{Memory as OutOfMemory};
+
 use crate::choice::Memory;
+use std::alloc::AllocError;
 
 /// A number that has a limit.
 #[derive(Clone, Copy, Debug, PartialEq, Eq)]
@@ -31,9 +35,17 @@ pub enum BuildFault {
 }
 
 impl From<Memory> for BuildFault {
-    ghost from_gives = { λ _ _. Unit {0} };
+    ghost from_gives = { λ _ f. f ≡ OutOfMemory };
 
     fn from(_: Memory) -> BuildFault {
+        BuildFault::Memory
+    }
+}
+
+impl From<AllocError> for BuildFault {
+    ghost from_gives = { λ _ f. f ≡ OutOfMemory };
+
+    fn from(_: AllocError) -> BuildFault {
         BuildFault::Memory
     }
 }

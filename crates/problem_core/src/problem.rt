@@ -1,11 +1,16 @@
-ghost use Rattle.std.specs.Prelude.{◌≡◌, ◌==◌, ◌<◌, ◌≤◌, ◌+◌, ℕ, length, IsTrue, slice_index};
-ghost use Rattle.std.specs.List.{list_any};
+ghost use Rattle.std.specs.Prelude.{◌≡◌, ◌==◌, ◌<◌, ◌≤◌, ◌+◌, ℕ, pos, length, IsTrue, slice_index};
+ghost use Rattle.std.specs.List.{list_any, AllByRecursion};
+ghost use Rattle.problem_core.specs.Courses.{events_of, place_of};
 ghost use Rattle.problem_core.specs.OfParts.{facts_of, well_formed};
 ghost use Rattle.problem_core.specs.Limits.{Builds};
-ghost use Rattle.problem_core.specs.Facts.{suits, share_slot, is_pair, is_closed, course_of, event_at, run_of};
+ghost use Rattle.problem_core.specs.Kept.{IsWithin};
+ghost use Rattle.problem_core.specs.Measures.{points_of};
+ghost use Rattle.problem_core.specs.Facts.{suits, share_slot, admits, is_closed, course_of, event_at, hours_of, run_of};
 
-use crate::limit::BuildFault;
-use crate::over::limit_of;
+use crate::courses::{CourseTable, ROW, course_table};
+use crate::grid::{admitted, cell, closed, points};
+use crate::limit::{BuildFault, Limit, LimitKind};
+use crate::over::course_limit;
 use crate::parts::{EventPart, Parts};
 use std::alloc::Global;
 use std::marker::Model;
@@ -14,18 +19,23 @@ use std::marker::Model;
 #[derive(Drop)]
 pub struct Problem {
     parts: Parts,
+    courses: CourseTable,
+    admitted: Vec<bool>,
+    closed: Vec<bool>,
+    points: Vec<i32>,
 }
 
 impl Model for Problem {
     ghost use Rattle.problem_core.specs.Facts.{Facts};
     ghost use Rattle.problem_core.specs.OfParts.{facts_of};
     ghost use Rattle.problem_core.specs.Kept.{AreKept};
+    ghost use Rattle.problem_core.specs.Tables.{AreTables};
 
     ghost Value = { Facts };
 
     ghost view = { λ p. facts_of p.parts };
 
-    ghost invariant = { λ p. AreKept p.parts };
+    ghost invariant = { λ p. AreKept p.parts × AreTables (facts_of p.parts) p.courses.sizes.items p.courses.order.items p.courses.places.items p.admitted.items p.closed.items p.points.items };
 }
 
 impl Problem {
@@ -36,11 +46,29 @@ impl Problem {
         requires { IsTrue (well_formed parts) }
         ensures { Builds (facts_of parts) result }
     {
-        let _ = alloc;
-        match limit_of(&parts) {
-            Some(limit) => Err(BuildFault::Limit(limit)),
-            None => Ok(Problem { parts }),
+        let count = parts.events.len();
+        if 4000 < count {
+            return Err(BuildFault::Limit(Limit {
+                kind: LimitKind::Meetings,
+                count: count as u64,
+                limit: 4000,
+            }));
         }
+        let courses = course_table(alloc, &parts)?;
+        match course_limit(&parts, &courses) {
+            Some(limit) => return Err(BuildFault::Limit(limit)),
+            None => {}
+        }
+        let admitted = admitted(alloc, &parts)?;
+        let closed = closed(alloc, &parts)?;
+        let points = points(alloc, &parts)?;
+        Ok(Problem {
+            parts,
+            courses,
+            admitted,
+            closed,
+            points,
+        })
     }
 
     /// The number of events.
@@ -88,6 +116,7 @@ impl Problem {
     pub fn takes(&self, event: u32) -> (u32, u32)
         requires { event < length self.now.events }
         ensures slots { (event_at self.now event).takes ≡ run_of result.0 result.1 }
+        ensures hours { result.1 ≡ hours_of self.now event }
         ensures some { 1 ≤ result.1 }
         ensures short { result.1 ≤ 48 }
         ensures within { result.0 + result.1 ≤ self.now.slots }
@@ -119,6 +148,7 @@ impl Problem {
         requires { event < length self.now.events }
         ensures course { result.course ≡ course_of self.now event }
         ensures slots { (event_at self.now event).takes ≡ run_of result.slot result.length }
+        ensures hours { result.length ≡ hours_of self.now event }
         ensures known { result.course < length self.now.students }
         ensures some { 1 ≤ result.length }
         ensures short { result.length ≤ 48 }
@@ -135,14 +165,18 @@ impl Problem {
         requires known_room { room < length self.now.capacity }
         ensures { result ≡ suits self.now event room }
     {
-        let parts = &self.parts;
         let e = self.event(event);
-        let needs = parts.needs.as_slice()[e.course as usize];
-        let has = parts.features.as_slice()[room as usize];
-        let seats = self.students(e.course) <= self.capacity(room);
-        let denied = has_pair(parts.denied.as_slice(), e.course, room);
-        let closed = self.is_closed(room, e.slot, e.length);
-        seats && needs & has == needs && !denied && !closed
+        self.admits(e.course, room) && !self.is_closed(room, e.slot, e.length)
+    }
+
+    /// Whether the room seats the course, has every feature that it needs, and isn't denied to it.
+    fn admits(&self, course: u32, room: u32) -> bool
+        requires known { course < length self.now.students }
+        requires known_room { room < length self.now.capacity }
+        ensures { result ≡ admits self.now course room }
+    {
+        let rooms = self.parts.capacity.len();
+        cell(&self.admitted, rooms, course as usize, room as usize)
     }
 
     /// Whether the two events take a slot in common.
@@ -157,17 +191,67 @@ impl Problem {
     }
 
     /// Whether the room is closed in one of the slots.
-    fn is_closed(&self, room: u32, slot: u32, length: u32) -> bool
-        requires within { slot + length ≤ self.now.slots }
-        requires few { self.now.slots ≤ 672 }
-        ensures { result ≡ list_any (is_closed self.now room) (run_of slot length) }
+    fn is_closed(&self, room: u32, slot: u32, count: u32) -> bool
+        requires known_room { room < length self.now.capacity }
+        requires within { slot + count ≤ self.now.slots }
+        requires small { slot + count ≤ 672 }
+        ensures { result ≡ list_any (is_closed self.now room) (run_of slot count) }
     {
-        for s in slot..slot + length {
-            if has_pair(self.parts.closed.as_slice(), room, s) {
+        for s in slot..slot + count {
+            if self.is_closed_at(room, s) {
                 return true;
             }
         }
         false
+    }
+
+    /// Whether the room is closed in the slot.
+    fn is_closed_at(&self, room: u32, slot: u32) -> bool
+        requires known { slot < self.now.slots }
+        requires known_room { room < length self.now.capacity }
+        ensures { result ≡ is_closed self.now room slot }
+    {
+        let slots = self.parts.slots as usize;
+        cell(&self.closed, slots, room as usize, slot as usize)
+    }
+
+    /// The course's events, in order.
+    pub fn events_of(&self, course: u32) -> &[u32]
+        requires { course < length self.now.students }
+        ensures events { result.now ≡ events_of self.now course }
+        ensures few { length result.now ≤ 12 }
+    {
+        let first = course as usize * ROW;
+        let count = self.courses.sizes[course as usize] as usize;
+        &self.courses.order[first..first + count]
+    }
+
+    /// The event's place among its course's events: how many of them come before it.
+    pub fn place_of(&self, event: u32) -> u32
+        requires { event < length self.now.events }
+        ensures place { result ≡ place_of self.now event }
+        ensures few { result < 12 }
+    {
+        self.courses.places[event as usize]
+    }
+
+    /// The rows of thresholds and points.
+    pub(crate) fn robust(&self) -> &[(u32, i32)]
+        ensures rows { result.now ≡ self.now.robust }
+        ensures small { AllByRecursion (λ row. IsWithin (pos 1000000) row.1) result.now }
+    {
+        self.parts.robust.as_slice()
+    }
+
+    /// The points that are listed for the course and the room, else 0.
+    pub(crate) fn points(&self, course: u32, room: u32) -> i32
+        requires known { course < length self.now.students }
+        requires known_room { room < length self.now.capacity }
+        ensures points { result ≡ points_of course room self.now.prefer }
+        ensures small { IsWithin (pos 1000000) result }
+    {
+        let rooms = self.parts.capacity.len();
+        cell(&self.points, rooms, course as usize, room as usize)
     }
 }
 
@@ -180,11 +264,4 @@ fn runs_meet(a: u32, n: u32, b: u32, m: u32) -> bool
     ensures { result ≡ list_any (λ s. list_any (λ t. t == s) (run_of b m)) (run_of a n) }
 {
     a < b + m && b < a + n
-}
-
-/// Whether the pair is listed.
-fn has_pair(pairs: &[(u32, u32)], first: u32, second: u32) -> bool
-    ensures { result ≡ list_any (is_pair first second) pairs.now }
-{
-    pairs.iter().any(|x| x.0 == first && x.1 == second)
 }

@@ -3,7 +3,7 @@ use Rattle.std.specs.Prelude.{nat_lt}
 use Rattle.numbers.specs.Below.{first_from}
 use Rattle.problem_core.specs.Courses.{meetings_of}
 use Rattle.problem_core.specs.OfParts.{facts_of}
-use Rattle.problem_core.proofs.over.crowded_course.Given as goal
+use Rattle.problem_core.proofs.over.course_limit.Given as goal
 
 abbrev pub invariant-loop-course : goal.invariant-loop-course
 invariant-loop-course l =
