@@ -23,10 +23,10 @@ pub all-more : {A : Type 0} (test : A → Bool) (xs : List A) (x : A) → list_a
 all-more test [] x h t = rw t refl
 all-more test (y ∷ ys) x h t = let p = and_parts (test y) (list_all test ys) h in both (test y) _ p.0 (all-more test ys x p.1 t)
 
-same_both_ways : (a b : List ℕ) → bytes_eq a b ≡ false → bytes_eq b a ≡ false
+pub same_both_ways : (a b : List ℕ) → bytes_eq a b ≡ false → bytes_eq b a ≡ false
 same_both_ways a b h = false_from_ne_true _ (λ e. let other : bytes_eq a b ≡ true = (bytes_decides a b).1 (sym ((bytes_decides b a).0 e)) in cc)
 
-or_parts : (a b : Bool) → (a || b) ≡ false → (a ≡ false) × (b ≡ false)
+pub or_parts : (a b : Bool) → (a || b) ≡ false → (a ≡ false) × (b ≡ false)
 or_parts true b h = cc
 or_parts false b h = (refl, h)
 

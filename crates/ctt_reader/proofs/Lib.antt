@@ -1,3 +1,4 @@
+pub mod DifferentLemmas
 pub mod EntryLemmas
 pub mod FileLemmas
 pub mod NameLemmas

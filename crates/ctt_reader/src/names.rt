@@ -1,6 +1,9 @@
-ghost use Rattle.std.specs.Prelude.{◌≡◌, ◌<◌, ◌^◌, [], ◌++◌, ◌∷◌, length, not, IfOk, OnOk, OnErr};
+ghost use Rattle.std.specs.Prelude.{◌≡◌, true, ◌<◌, ◌^◌, [], ◌++◌, ◌∷◌, length, not, IfOk, OnOk, OnErr};
+ghost use Rattle.ctt_reader.specs.Entries.{course_names, room_names};
+ghost use Rattle.ctt_reader.specs.Promised.{are_different};
 ghost use Rattle.ctt_reader.specs.Names.{place_of, has_name, with_name, course_at, room_at};
 
+use crate::instance::Instance;
 use indexmap::IndexSet;
 use input_core::{LineKind, Memory, read_name};
 use std::alloc::Global;
@@ -50,6 +53,30 @@ impl<'a> Names<'a> {
         let place = self.set.get_index_of(name)?;
         Some(place as u32)
     }
+}
+
+/// The names of the courses of an instance, which differ.
+pub fn names_of_courses<'a>(alloc: Global, i: &'a Instance) -> Result<Names<'a>, Memory>
+    requires { are_different (course_names i.now.courses) ≡ true }
+    ensures { IfOk result (λ names. names ≡ course_names i.now.courses) }
+{
+    let mut names = Names::new(alloc);
+    for course in i.courses.as_slice() {
+        names.add(course.name.as_bytes())?;
+    }
+    Ok(names)
+}
+
+/// The names of the rooms of an instance, which differ.
+pub fn names_of_rooms<'a>(alloc: Global, i: &'a Instance) -> Result<Names<'a>, Memory>
+    requires { are_different (room_names i.now.rooms) ≡ true }
+    ensures { IfOk result (λ names. names ≡ room_names i.now.rooms) }
+{
+    let mut names = Names::new(alloc);
+    for room in i.rooms.as_slice() {
+        names.add(room.name.as_bytes())?;
+    }
+    Ok(names)
 }
 
 /// The number of the course that the field names: `NameLength`, else `UnknownCourse`.
