@@ -1,13 +1,12 @@
 -- The greatest common divisor by halving: factors of 2 in one of two numbers do not count beside an odd one.
-use Rattle.std.proofs.Common.{ℕ, ◌≡◌, ◌+◌, ◌-◌, ◌*◌, ◌/◌, ◌%◌, ◌^◌, ◌<◌, ◌≤◌, arith, refl, sym, ◌∙◌, ap, ap₂, zero, suc, subst, mul_comm, min, inl, inr, ◌⊎◌, add-one}
+use Rattle.std.proofs.Common.{ℕ, ◌≡◌, ◌+◌, ◌-◌, ◌*◌, ◌/◌, ◌%◌, ◌^◌, ◌<◌, ◌≤◌, arith, refl, sym, ◌∙◌, ap, ap₂, zero, suc, subst, mul_comm, min, inl, inr}
 use Rattle.std.specs.Int.{◌∣◌, IsGcd, w64, bit_at, trailing_zeros, abs_diff}
 use Rattle.std.proofs.lemmas.Bool.{cases_lt}
 use Rattle.std.proofs.lemmas.Nat.{pow-add}
 use Rattle.std.proofs.lemmas.Nat.Bits.{bit_at-trailing_zeros}
-use Rattle.std.proofs.lemmas.Nat.Gcd.{dvd_antisymm, dvd_trans, dvd_refl, le_of_dvd}
+use Rattle.std.proofs.lemmas.Nat.Gcd.{dvd_antisymm, dvd_trans, le_of_dvd}
 use Rattle.std.proofs.Math.Nat.{pow-suc, div-div-eq-div-mul, div-one, mul-div_cancel', dvd-add, dvd-sub, dvd-mul_right, dvd-mul_left_of_dvd, one-dvd, mul-dvd-mul_left, dvd_of_mul-dvd-mul_left, mod-eq_of_lt}
 use Rattle.numbers.specs.Coprime.{IsCoprime, divides_other, gcd_within}
-use Rattle.exact_num.specs.Over.{factor_positive}
 use Rattle.exact_num.specs.Reduced.{coprime_swap, coprime_product}
 use Rattle.exact_num.specs.Halving.{IsOddPart}
 
@@ -67,10 +66,10 @@ odd_divisor d x h odd = product d (x / d) x (mul-div_cancel' d h) odd
 -- y = 2 ^ t m
 pub gcd_halved : (x y m t g : ℕ) → x % 2 ≡ 1 → 2 ^ t * m ≡ y → IsGcd x m g → IsGcd x y g
 gcd_halved x y m t g odd e is = (
-    is.0,
-    subst (λ n. g ∣ n) e (dvd-mul_left_of_dvd g is.1 (2 ^ t)),
-    λ d p q. is.2 d p (divides_other (2 ^ t) d m (coprime_swap d (2 ^ t) (powers_apart d t (odd_divisor d x p odd))) (subst (λ n. d ∣ n) (sym e) q)),
-  )
+  is.0,
+  subst (λ n. g ∣ n) e (dvd-mul_left_of_dvd g is.1 (2 ^ t)),
+  λ d p q. is.2 d p (divides_other (2 ^ t) d m (coprime_swap d (2 ^ t) (powers_apart d t (odd_divisor d x p odd))) (subst (λ n. d ∣ n) (sym e) q)),
+)
 
 turned : (x y g : ℕ) → IsGcd x y g → IsGcd y x g
 turned x y g is = (is.1, is.0, λ d p q. is.2 d q p)
@@ -111,18 +110,18 @@ part_below t m n e = times (2 ^ t) m n e (power t)
 -- a common factor
 scaled : (k x y g : ℕ) → 0 < k → IsGcd x y g → IsGcd (k * x) (k * y) (k * g)
 scaled k x y g some is = (
-    mul-dvd-mul_left g k is.0,
-    mul-dvd-mul_left g k is.1,
-    λ d p q.
-        let r = gcd_within (suc (k * y)) (k * x) (k * y) (omega arith) in
-        let h = r.0 in
-        let by_k : k ∣ h = r.1.2 k (dvd-mul_right k x) (dvd-mul_right k y) in
-        let whole : k * (h / k) ≡ h = mul-div_cancel' k by_k in
-        let first : h / k ∣ x = dvd_of_mul-dvd-mul_left (h / k) some (subst (λ n. n ∣ k * x) (sym whole) r.1.0) in
-        let second : h / k ∣ y = dvd_of_mul-dvd-mul_left (h / k) some (subst (λ n. n ∣ k * y) (sym whole) r.1.1) in
-        let up : h ∣ k * g = subst (λ n. n ∣ k * g) whole (mul-dvd-mul_left (h / k) k (is.2 (h / k) first second)) in
-        dvd_trans d (r.1.2 d p q) up,
-  )
+  mul-dvd-mul_left g k is.0,
+  mul-dvd-mul_left g k is.1,
+  λ d p q.
+      let r = gcd_within (suc (k * y)) (k * x) (k * y) (omega arith) in
+      let h = r.0 in
+      let by_k : k ∣ h = r.1.2 k (dvd-mul_right k x) (dvd-mul_right k y) in
+      let whole : k * (h / k) ≡ h = mul-div_cancel' k by_k in
+      let first : h / k ∣ x = dvd_of_mul-dvd-mul_left (h / k) some (subst (λ n. n ∣ k * x) (sym whole) r.1.0) in
+      let second : h / k ∣ y = dvd_of_mul-dvd-mul_left (h / k) some (subst (λ n. n ∣ k * y) (sym whole) r.1.1) in
+      let up : h ∣ k * g = subst (λ n. n ∣ k * g) whole (mul-dvd-mul_left (h / k) k (is.2 (h / k) first second)) in
+      dvd_trans d (r.1.2 d p q) up,
+)
 
 power_positive : (t : ℕ) → 0 < 2 ^ t
 power_positive zero = omega arith

@@ -163,12 +163,23 @@ fn fitting(bound: u128, n: i128) -> Option<i128>
     }
 }
 
+/// The product of numbers of 64 bits.
+#[inline]
+fn short_product(a: i64, b: i64) -> i128
+    ensures { result ≡ a *ℤ b }
+{
+    i128::from(a) * i128::from(b)
+}
+
 /// The product, where its size is below the bound.
 #[inline]
 pub(crate) fn fitting_product(bound: u128, a: i128, b: i128) -> Option<i128>
     requires { bound ≤ 2 ^ 127 }
     ensures { MatchOption result (below bound (a *ℤ b) ≡ false) (λ c. (c ≡ a *ℤ b) × (below bound (a *ℤ b) ≡ true)) }
 {
+    if let (Ok(short_a), Ok(short_b)) = (i64::try_from(a), i64::try_from(b)) {
+        return fitting(bound, short_product(short_a, short_b));
+    }
     match a.checked_mul(b) {
         Some(product) => fitting(bound, product),
         None => None,

@@ -1,4 +1,4 @@
-use Rattle.std.proofs.Common.{ℕ, ◌≡◌, ◌%◌, min, ap, sym, ◌∙◌, refl, subst}
+use Rattle.std.proofs.Common.{◌≡◌, ◌%◌, min, ap, ◌∙◌, subst}
 use Rattle.std.specs.Int.{◌∣◌, IsGcd, w64, trailing_zeros, abs_diff}
 use Rattle.std.proofs.lemmas.Nat.Gcd.{dvd_refl}
 use Rattle.exact_num.proofs.Halving.{gcd_halved, gcd_difference, odd_min}
