@@ -4,3 +4,4 @@ pub mod Products
 pub mod Lowest
 pub mod Settled
 pub mod Commons
+pub mod Halving

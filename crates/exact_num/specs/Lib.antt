@@ -13,3 +13,4 @@ pub mod Denominators
 pub mod Signs
 pub mod Value128
 pub mod Value64
+pub mod Halving

@@ -1,4 +1,4 @@
-ghost use Rattle.std.specs.Prelude.{◌≡◌, ◌≢◌, [], ◌∷◌, ◌<◌, ◌≤◌, ◌*◌, ◌^◌, ℤ, pos, ◌<ℤ◌, ◌+ℤ◌, ◌*ℤ◌, MatchOption, true, false, unsigned_abs};
+ghost use Rattle.std.specs.Prelude.{◌≡◌, ◌≢◌, [], ◌∷◌, ◌<◌, ◌≤◌, ◌*◌, ◌%◌, ◌^◌, ℤ, pos, ◌<ℤ◌, ◌+ℤ◌, ◌*ℤ◌, MatchOption, true, false, unsigned_abs};
 ghost use Rattle.std.specs.List.{list_all};
 ghost use Rattle.std.specs.Int.{◌∣◌, IsGcd};
 ghost use Rattle.std.specs.Ordering.{nat_cmp};
@@ -6,6 +6,7 @@ ghost use Rattle.exact_num.specs.Cross.{cross_cmp};
 ghost use Rattle.exact_num.specs.Q.{IsLow};
 ghost use Rattle.exact_num.specs.Work.{below, sum_of_parts, product_of_parts, quotient_of_parts};
 ghost use Rattle.exact_num.specs.Arith.{Finds, IsReduced, IsUnfit};
+ghost use Rattle.exact_num.specs.Halving.{IsOddPart};
 ghost use Rattle.exact_num.specs.Signs.{sign_of, turned_num};
 
 use std::cmp::Ordering;
@@ -13,16 +14,43 @@ use std::cmp::Ordering;
 /// A number that fits 64 bits is at most this.
 const SHORT: u128 = u64::MAX as u128;
 
-/// The greatest common divisor of numbers of 64 bits.
-fn short_gcd(a: u64, b: u64) -> u64
+/// The number without its factors of 2.
+#[inline]
+fn odd_part(n: u64) -> u64
+    requires { 0 < n }
+    ensures { IsOddPart n result }
+{
+    n >> n.trailing_zeros()
+}
+
+/// The greatest common divisor of odd numbers, by differences without their factors of 2.
+fn odd_gcd(a: u64, b: u64) -> u64
+    requires first { a % 2 ≡ 1 }
+    requires second { b % 2 ≡ 1 }
     ensures { IsGcd a b result }
 {
     let mut x = a;
     let mut y = b;
-    while y != 0 {
-        (x, y) = (y, x % y);
+    while x != y {
+        let difference = x.abs_diff(y);
+        x = x.min(y);
+        y = odd_part(difference);
     }
     x
+}
+
+/// The greatest common divisor of numbers of 64 bits, by halving (J. Stein, 1967).
+fn short_gcd(a: u64, b: u64) -> u64
+    ensures { IsGcd a b result }
+{
+    if a == 0 {
+        return b;
+    }
+    if b == 0 {
+        return a;
+    }
+    let g = odd_gcd(odd_part(a), odd_part(b));
+    g << a.trailing_zeros().min(b.trailing_zeros())
 }
 
 /// The greatest common divisor, by Euclid's steps on 128 bits until both numbers fit 64.
@@ -135,12 +163,23 @@ fn fitting(bound: u128, n: i128) -> Option<i128>
     }
 }
 
+/// The product of numbers of 64 bits.
+#[inline]
+fn short_product(a: i64, b: i64) -> i128
+    ensures { result ≡ a *ℤ b }
+{
+    i128::from(a) * i128::from(b)
+}
+
 /// The product, where its size is below the bound.
 #[inline]
 pub(crate) fn fitting_product(bound: u128, a: i128, b: i128) -> Option<i128>
     requires { bound ≤ 2 ^ 127 }
     ensures { MatchOption result (below bound (a *ℤ b) ≡ false) (λ c. (c ≡ a *ℤ b) × (below bound (a *ℤ b) ≡ true)) }
 {
+    if let (Ok(short_a), Ok(short_b)) = (i64::try_from(a), i64::try_from(b)) {
+        return fitting(bound, short_product(short_a, short_b));
+    }
     match a.checked_mul(b) {
         Some(product) => fitting(bound, product),
         None => None,
