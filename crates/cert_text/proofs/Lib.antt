@@ -2,3 +2,4 @@ pub mod NumberLaws
 pub mod SpellingLaws
 pub mod GrammarLaws
 pub mod TextLaws
+pub mod ReadLaws

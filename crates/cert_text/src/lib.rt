@@ -4,11 +4,14 @@
 mod bounds;
 mod fields;
 mod laws;
+mod leaf_line;
+mod line;
 mod lines;
 mod numbers;
 mod place;
 
 pub use duality::Node;
 pub use laws::{line_laws, text_laws};
+pub use line::read_line;
 pub use lines::{CertLine, Certificate, Tree};
 pub use place::{Place, step};
