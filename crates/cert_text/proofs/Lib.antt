@@ -3,3 +3,4 @@ pub mod SpellingLaws
 pub mod GrammarLaws
 pub mod TextLaws
 pub mod ReadLaws
+pub mod TakeLaws

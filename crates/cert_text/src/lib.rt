@@ -9,9 +9,11 @@ mod line;
 mod lines;
 mod numbers;
 mod place;
+mod reader;
 
 pub use duality::Node;
 pub use laws::{line_laws, text_laws};
 pub use line::read_line;
 pub use lines::{CertLine, Certificate, Tree};
 pub use place::{Place, step};
+pub use reader::{Reader, read_cert};
