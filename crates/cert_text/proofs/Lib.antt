@@ -4,3 +4,4 @@ pub mod GrammarLaws
 pub mod TextLaws
 pub mod ReadLaws
 pub mod TakeLaws
+pub mod WriteLaws

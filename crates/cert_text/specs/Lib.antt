@@ -5,3 +5,4 @@ pub mod Text
 pub mod Places
 pub mod Reading
 pub mod Adding
+pub mod Writing

@@ -10,6 +10,7 @@ mod lines;
 mod numbers;
 mod place;
 mod reader;
+mod writer;
 
 pub use duality::Node;
 pub use laws::{line_laws, text_laws};
@@ -17,3 +18,4 @@ pub use line::read_line;
 pub use lines::{CertLine, Certificate, Tree};
 pub use place::{Place, step};
 pub use reader::{Reader, read_cert};
+pub use writer::write_cert;
