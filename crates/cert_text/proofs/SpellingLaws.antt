@@ -15,7 +15,7 @@ use Rattle.duality.specs.Sums.{rises, is_small}
 use Rattle.cert_text.specs.declared.lines.CertLine.{CertLine}
 use Rattle.cert_text.specs.declared.lines.CertLine.TheVariants.{Head, Sizes, Choice, Values, Cuts, Cut, Level, Unfinished, Node, End}
 use Rattle.cert_text.specs.Numbers.{lacks, cut, joined, opt_then, number_of, signed_of, each_of}
-use Rattle.cert_text.specs.Spelling.{row_text, term_fields, leaf_fields, counted, fields_of, line_text, row_in_bounds, is_zero, term_in_bounds, scale_in_bounds, leaf_in_bounds, in_bounds, is_rising, small_number, value_of, row_named, row_of, terms_of, counted_terms, leaf_of, only_number, pair_of, as_many, counted_of, six_of, values_of, is_version, is_none, node_line, level_line, first_line, line_in, line_of}
+use Rattle.cert_text.specs.Spelling.{row_text, term_fields, leaf_fields, counted, fields_of, line_text, row_in_bounds, is_zero, term_in_bounds, scale_in_bounds, leaf_in_bounds, in_bounds, is_rising, small_number, value_of, row_named, row_of, term_of, terms_of, counted_terms, leaf_of, only_number, pair_of, as_many, counted_of, six_of, values_of, is_version, head_line, open_line, node_line, level_line, first_line, line_in, line_of}
 use Rattle.cert_text.proofs.NumberLaws.{joined-cut, cut-joined, bytes_are, number_is, number_reads, opt_then_is, up_to_is, up_to_reads, signed_is, signed_reads, plain, decimal_plain, signed_plain_bytes, plain_lacks_blank, all_lack_blank, joined_lacks_feed, each_is, each_reads, each_plain, all_weaker}
 
 -- ---- small numbers
@@ -116,18 +116,23 @@ terms_plain (t ∷ ts) h =
     and_from (plain (row_text t.row)) (plain (signed_decimal t.times) && list_all plain (term_fields ts)) (row_plain t.row here.0)
     (and_from (plain (signed_decimal t.times)) (list_all plain (term_fields ts)) (signed_plain_bytes t.times times.1) (terms_plain ts parts.1))
 
+abbrev term_with : RowName → ℤ → Term
+term_with row times = record { row = row; times = times }
+
 terms_are : (fs : List (List ℕ)) (ts : List Term) → terms_of fs ≡ Some ts → fs ≡ term_fields ts
 terms_are [] ts h = ap term_fields (same_Some [] ts h)
 terms_are (r ∷ []) ts h = absurd (none-some ts h)
 terms_are (r ∷ (m ∷ fs)) ts h =
-    let a = opt_then_is (row_of r) (λ row. opt_then (signed_of m) (λ times. opt_then (terms_of fs) (λ us. Some (record { row = row; times = times } ∷ us)))) ts h in
-    let b = opt_then_is (signed_of m) (λ times. opt_then (terms_of fs) (λ us. Some (record { row = a.0; times = times } ∷ us))) ts a.2 in
-    let c = opt_then_is (terms_of fs) (λ us. Some (record { row = a.0; times = b.0 } ∷ us)) ts b.2 in
-    let t : Term = record { row = a.0; times = b.0 } in
+    let t = opt_then_is (term_of r m) (λ u. opt_then (terms_of fs) (λ us. Some (u ∷ us))) ts h in
+    let a = opt_then_is (row_of r) (λ row. opt_then (signed_of m) (λ times. Some (record { row = row; times = times }))) t.0 t.1 in
+    let b = opt_then_is (signed_of m) (λ times. Some (record { row = a.0; times = times })) t.0 a.2 in
+    let c = opt_then_is (terms_of fs) (λ us. Some (t.0 ∷ us)) ts t.2 in
+    let whole : ◌≡◌ {A = Term} (record { row = a.0; times = b.0 }) t.0 = same_Some (term_with a.0 b.0) t.0 b.2 in
     ap (λ x. x ∷ (m ∷ fs)) (row_is r a.0 a.1)
     ∙ ap (λ x. row_text a.0 ∷ (x ∷ fs)) (signed_is m b.0 b.1)
     ∙ ap (λ x. row_text a.0 ∷ (signed_decimal b.0 ∷ x)) (terms_are fs c.0 c.1)
-    ∙ ap term_fields (same_Some (t ∷ c.0) ts c.2)
+    ∙ ap (λ u. term_fields (u ∷ c.0)) whole
+    ∙ ap term_fields (same_Some (t.0 ∷ c.0) ts c.2)
 
 abbrev leaf_with : ℤ → List Term → Leaf
 leaf_with d ts = record { scale = d; terms = ts }
@@ -228,12 +233,12 @@ leaf_is (d ∷ (t ∷ fs)) leaf h =
         ∙ ap (λ xs. decimal n ∷ (decimal (length ts) ∷ xs)) (terms_are fs ts (sym q))
         ∙ ap leaf_fields e.1
 
-head_is : (fs : List (List ℕ)) → Spelt (codes "rooms-certificate" ∷ fs) (cond (is_version fs) (Some Head) None)
+head_is : (fs : List (List ℕ)) → Spelt (codes "rooms-certificate" ∷ fs) (head_line fs)
 head_is [] = tt
 head_is (v ∷ []) = cond_both (bytes_eq v (codes "1")) (Some Head) None (Spelt (codes "rooms-certificate" ∷ (v ∷ []))) (λ e. ap (λ x. codes "rooms-certificate" ∷ (x ∷ [])) (bytes_are v (codes "1") e)) (λ e. tt)
 head_is (v ∷ (w ∷ fs)) = tt
 
-open_is : (fs : List (List ℕ)) → Spelt (codes "open" ∷ fs) (cond (is_none fs) (Some (Node OpenEnd)) None)
+open_is : (fs : List (List ℕ)) → Spelt (codes "open" ∷ fs) (open_line fs)
 open_is [] = refl
 open_is (f ∷ fs) = tt
 

@@ -130,11 +130,11 @@ lines_lack (l ∷ lines) h =
     let parts = and_parts (in_bounds l) (list_all in_bounds lines) h in
     and_from (lacks 10 (line_text l)) (list_all (lacks 10) (map line_text lines)) (line_lacks_feed l parts.0) (lines_lack lines parts.1)
 
-map-append : (xs ys : List CertLine) → map line_text (xs ++ ys) ≡ map line_text xs ++ map line_text ys
+pub map-append : (xs ys : List CertLine) → map line_text (xs ++ ys) ≡ map line_text xs ++ map line_text ys
 map-append [] ys = refl
 map-append (x ∷ xs) ys = ap (λ ls. line_text x ∷ ls) (map-append xs ys)
 
-fed-append : (xs ys : List (List ℕ)) → fed (xs ++ ys) ≡ fed xs ++ fed ys
+pub fed-append : (xs ys : List (List ℕ)) → fed (xs ++ ys) ≡ fed xs ++ fed ys
 fed-append [] ys = refl
 fed-append (x ∷ xs) ys = ap (λ bs. x ++ (10 ∷ bs)) (fed-append xs ys) ∙ sym (append_assoc x (10 ∷ fed xs) (fed ys))
 

@@ -115,10 +115,13 @@ abbrev pub row_of : List ℕ → Option RowName
 row_of [] = None
 row_of (letter ∷ digits) = row_named letter (small_number digits)
 
+abbrev pub term_of : List ℕ → List ℕ → Option Term
+term_of r m = opt_then (row_of r) (λ row. opt_then (signed_of m) (λ times. Some (record { row = row; times = times })))
+
 abbrev pub terms_of : List (List ℕ) → Option (List Term)
 terms_of [] = Some []
 terms_of (r ∷ []) = None
-terms_of (r ∷ (m ∷ fields)) = opt_then (row_of r) (λ row. opt_then (signed_of m) (λ times. opt_then (terms_of fields) (λ ts. Some (record { row = row; times = times } ∷ ts))))
+terms_of (r ∷ (m ∷ fields)) = opt_then (term_of r m) (λ t. opt_then (terms_of fields) (λ ts. Some (t ∷ ts)))
 
 abbrev pub counted_terms : ℤ → Option ℕ → Option (List Term) → Option Leaf
 counted_terms scale (Some count) (Some ts) = if count == length ts then Some (record { scale = scale; terms = ts }) else None
@@ -164,16 +167,19 @@ is_version [] = false
 is_version (v ∷ []) = bytes_eq v (codes "1")
 is_version (v ∷ (w ∷ fs)) = false
 
-abbrev pub is_none : List (List ℕ) → Bool
-is_none [] = true
-is_none (f ∷ fs) = false
+abbrev pub head_line : List (List ℕ) → Option CertLine
+head_line fs = if is_version fs then Some Head else None
+
+abbrev pub open_line : List (List ℕ) → Option CertLine
+open_line [] = Some (Node OpenEnd)
+open_line (f ∷ fs) = None
 
 -- the lines of a tree and the cuts; for another word, something else
 abbrev pub node_line : List ℕ → List (List ℕ) → Option CertLine → Option CertLine
 node_line w fs other =
     if bytes_eq w (codes "branch") then option_map (λ p. Node (Branch p)) (only_number fs)
     else (if bytes_eq w (codes "leaf") then option_map (λ leaf. Node (Closing leaf)) (leaf_of fs)
-    else (if bytes_eq w (codes "open") then (if is_none fs then Some (Node OpenEnd) else None)
+    else (if bytes_eq w (codes "open") then open_line fs
     else (if bytes_eq w (codes "cut") then option_map Cut (counted_of fs)
     else other)))
 
@@ -189,7 +195,7 @@ level_line w fs other =
 -- the lines at the beginning
 abbrev pub first_line : List ℕ → List (List ℕ) → Option CertLine → Option CertLine
 first_line w fs other =
-    if bytes_eq w (codes "rooms-certificate") then (if is_version fs then Some Head else None)
+    if bytes_eq w (codes "rooms-certificate") then head_line fs
     else (if bytes_eq w (codes "model") then option_map (λ p. Sizes p.0 p.1) (pair_of fs)
     else (if bytes_eq w (codes "choice") then option_map Choice (counted_of fs)
     else (if bytes_eq w (codes "values") then option_map Values (values_of fs)
@@ -199,6 +205,9 @@ abbrev pub line_in : List (List ℕ) → Option CertLine
 line_in [] = None
 line_in (w ∷ fs) = node_line w fs (level_line w fs (first_line w fs None))
 
+abbrev pub bounded : Option CertLine → Option CertLine
+bounded line = opt_then line (λ l. if in_bounds l then Some l else None)
+
 -- the line that the bytes spell
 abbrev pub line_of : List ℕ → Option CertLine
-line_of bytes = opt_then (line_in (cut 32 bytes)) (λ l. if in_bounds l then Some l else None)
+line_of bytes = bounded (line_in (cut 32 bytes))

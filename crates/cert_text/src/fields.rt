@@ -4,6 +4,7 @@ ghost use Rattle.cert_text.specs.Numbers.{cut, lacks};
 use std::marker::Model;
 
 /// The fields of a line from the left, with one blank between two; contracts see those that are left.
+#[derive(Drop)]
 pub struct Fields<'a> {
     rest: &'a [u8],
     more: bool,
