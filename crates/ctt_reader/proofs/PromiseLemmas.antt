@@ -21,7 +21,7 @@ named field name h e =
     subst (λ (x : List ℕ). is_name x ≡ true) n.1 (both (is_field field) (nat_le (length field) 64) h (short_is field n.0))
 
 -- a place among names is below their number
-place_of-ok : (name : List ℕ) (names : List (List ℕ)) (k : ℕ) → place_of name names ≡ Some k → nat_lt k (length names) ≡ true
+pub place_of-ok : (name : List ℕ) (names : List (List ℕ)) (k : ℕ) → place_of name names ≡ Some k → nat_lt k (length names) ≡ true
 place_of-ok name names k e = placed (nat_lt (position_or_len (bytes_eq name) names) (length names)) (position_or_len (bytes_eq name) names) k refl e
   where
     placed : (t : Bool) (n m : ℕ) → nat_lt n (length names) ≡ t → cond t (Some n) None ≡ Some m → nat_lt m (length names) ≡ true
