@@ -1,0 +1,8 @@
+use Rattle.std.proofs.Common.{◌≡◌, ◌+◌, drop}
+use Rattle.std.specs.Prelude.{not}
+use Rattle.std.specs.List.{prefix_len}
+use Rattle.input_core.specs.Lines.{is_feed}
+use Rattle.input_core.proofs.lines.length_to_feed.Given as goal
+
+abbrev pub invariant-loop-i : goal.invariant-loop-i
+invariant-loop-i l = l.i + prefix_len (λ b. not (is_feed b)) (drop l.i l.bytes) ≡ prefix_len (λ b. not (is_feed b)) l.bytes

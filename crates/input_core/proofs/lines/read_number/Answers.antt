@@ -1,0 +1,24 @@
+use Rattle.std.proofs.Common.{arith, sym, ◌∙◌, ◌<◌, ◌-◌, get_or}
+use Rattle.input_core.proofs.LineLemmas.{digit_fits, digit_more, digit_small, number_more, digits_all}
+use Rattle.input_core.proofs.lines.read_number.Goals as goal
+
+pub overflow_mul-number : goal.overflow_mul-number
+overflow_mul-number c = omega (arith, digit_fits c.loop-b.number 0 c.loop-b.b-index c.loop-b.invariant.small (omega arith) (omega arith))
+
+pub overflow_add-number : goal.overflow_add-number
+overflow_add-number c =
+    let d = sym c.is_digit.ensures ∙ c.if-not-is_digit.false in
+    let small : get_or c.args.field.now c.loop-b.b-index 0 - 48 < 10 = digit_small _ d in
+    omega (arith, digit_fits c.loop-b.number (get_or c.args.field.now c.loop-b.b-index 0 - 48) c.loop-b.b-index c.loop-b.invariant.small (omega arith) small, c.from.ensures)
+
+pub loop-b-preserved : goal.loop-b-preserved
+loop-b-preserved c =
+    let d = sym c.is_digit.ensures ∙ c.if-not-is_digit.false in
+    let i = c.loop-b.b-index in
+    let small : get_or c.args.field.now i 0 - 48 < 10 = digit_small _ d in
+    let same = number_more c.args.field.now i c.loop-b.number c.loop-b-test.true d c.loop-b.invariant.value in
+    record {
+      value = rw c.from.ensures same;
+      small = rw c.from.ensures (digit_more c.loop-b.number (get_or c.args.field.now i 0 - 48) i c.loop-b.invariant.small small);
+      digits = digits_all c.args.field.now i c.loop-b-test.true c.loop-b.invariant.digits d;
+    }

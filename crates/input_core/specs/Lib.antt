@@ -1,0 +1,9 @@
+pub mod Causes
+pub mod Shelf
+pub mod Memory
+pub mod Reading
+pub mod Lines
+pub mod Rows
+pub mod Fields
+pub mod Texts
+pub mod Samples
