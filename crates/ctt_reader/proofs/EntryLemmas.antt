@@ -93,8 +93,10 @@ room_in-ok name capacity r f e =
     let c = chained (number_in 0 1000000 capacity) _ r m.rest in
     let dash = unless-ok (bytes_eq n.first (codes "-")) n.first m.first _ m.is in
     let is = ok-same _ r c.rest in
+    let other : not (bytes_eq m.first (codes "-")) ≡ true = ap (λ (x : List ℕ). not (bytes_eq x (codes "-"))) (sym dash.1) ∙ ap not dash.0 in
+    let name : is_name m.first ≡ true = subst (λ (x : List ℕ). is_name x ≡ true) dash.1 (named name n.first f n.is) in
     subst (λ (x : Room). is_room x ≡ true) is
-    (both (is_name m.first) (nat_le c.first 1000000) (subst (λ (x : List ℕ). is_name x ≡ true) dash.1 (named name n.first f n.is)) (number_in-ok 0 1000000 capacity c.first c.is).1)
+    (both (is_name m.first && not (bytes_eq m.first (codes "-"))) (nat_le c.first 1000000) (both (is_name m.first) (not (bytes_eq m.first (codes "-"))) name other) (number_in-ok 0 1000000 capacity c.first c.is).1)
 
 room_of-ok : (fields : List (List ℕ)) (r : Room) → list_all is_field fields ≡ true → room_of fields ≡ Ok r → is_room r ≡ true
 room_of-ok [] r h e = cc

@@ -3,3 +3,4 @@ pub mod Entries
 pub mod Grammar
 pub mod Steps
 pub mod Promised
+pub mod Samples

@@ -1,5 +1,5 @@
 -- What every instance that a reader gives keeps to.
-use Rattle.std.specs.Prelude.{ℕ, ◌≡◌, ◌≤◌, ◌&&◌, Bool, true, not, nat_lt, nat_le, List, [], ◌∷◌, length}
+use Rattle.std.specs.Prelude.{ℕ, ◌≡◌, ◌≤◌, ◌&&◌, Bool, true, not, nat_lt, nat_le, List, [], ◌∷◌, length, bytes_eq, codes}
 use Rattle.std.specs.List.{list_all}
 use Rattle.input_core.specs.Lines.{is_field}
 use Rattle.ctt_reader.specs.Names.{has_name}
@@ -32,8 +32,9 @@ are_different (name ∷ names) = not (has_name name names) && are_different name
 abbrev pub is_course : Course → Bool
 is_course c = is_name c.name && is_name c.teacher && nat_le c.lectures 1000 && nat_le c.min_days 1000 && nat_le c.students 1000000
 
+-- no room is named `-`, which stands for no room
 abbrev pub is_room : Room → Bool
-is_room r = is_name r.name && nat_le r.capacity 1000000
+is_room r = is_name r.name && not (bytes_eq r.name (codes "-")) && nat_le r.capacity 1000000
 
 -- of so many courses
 abbrev pub is_curriculum : ℕ → Curriculum → Bool
