@@ -19,3 +19,6 @@ pub use lines::{CertLine, Certificate, Tree};
 pub use place::{Place, step};
 pub use reader::{Reader, read_cert};
 pub use writer::write_cert;
+
+#[cfg(test)]
+mod tests;
