@@ -7,7 +7,7 @@ mod laws;
 mod leaf_line;
 mod line;
 mod lines;
-mod numbers;
+mod number;
 mod place;
 mod reader;
 mod writer;
