@@ -1,6 +1,6 @@
 -- A piece added to what was read so far.
 use Rattle.std.proofs.Common.{ℕ, ◌≡◌, ◌+◌, ◌<◌, ◌≤◌, List, ◌++◌, length, take, refl, sym, ◌∙◌, ap, subst, arith, length-append, Bool}
-use Rattle.std.specs.Prelude.{Option, Some, None, IsTrue, IfSome, Ok}
+use Rattle.std.specs.Prelude.{Option, Some, None, IsTrue, IsSomeAnd, Ok}
 use Rattle.std.proofs.lemmas.List.{length-take-le, length-take, take_all}
 use Rattle.std.proofs.lemmas.Bool.{cases_lt}
 use Rattle.std.proofs.Math.Seq.{take-add}
@@ -53,9 +53,10 @@ IsWhole-from tells (Some all) limit n old new none added front low = record {
 }
 
 pub too_long : (tells : Bool) (held : Option (List ℕ)) (limit : ℕ) (bytes : List ℕ)
-    → (IsTrue tells → (all : List ℕ) → held ≡ Some all → bytes ≡ take (length bytes) all) → limit < length bytes → IsTrue tells → IfSome held (λ all. limit < length all)
-too_long tells None limit bytes front more told = tt
-too_long tells (Some all) limit bytes front more told = omega (arith, length_front bytes all (front told all refl))
+    → (IsTrue tells → (all : List ℕ) → held ≡ Some all → bytes ≡ take (length bytes) all) → (IsTrue tells → held ≡ None → length bytes ≡ 0)
+    → limit < length bytes → IsTrue tells → IsSomeAnd held (λ all. limit < length all)
+too_long tells None limit bytes front there more told = absurd (omega (arith, there told refl))
+too_long tells (Some all) limit bytes front there more told = omega (arith, length_front bytes all (front told all refl))
 
 pub AddsPiece-at : (tells tells' : Bool) (held held' : Option (List ℕ)) (limit n : ℕ) (old new : List ℕ) → tells' ≡ tells → held' ≡ held → AddsPiece tells' held' limit old new n → AddsPiece tells held limit old new n
 AddsPiece-at tells tells' held held' limit n old new e f added = subst (λ t. AddsPiece t held limit old new n) e (subst (λ h. AddsPiece tells' h limit old new n) f added)

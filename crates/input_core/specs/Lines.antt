@@ -43,6 +43,10 @@ cut_at_blanks (b ∷ bytes) = if is_blank b then [] ∷ cut_at_blanks bytes else
 abbrev pub is_some_text : List ℕ → Bool
 is_some_text text = not (length text == 0)
 
+-- not empty, and of graphic bytes alone
+abbrev pub is_field : List ℕ → Bool
+is_field field = is_some_text field && list_all is_graphic field
+
 abbrev pub fields_of : List ℕ → List (List ℕ)
 fields_of line = filter is_some_text (cut_at_blanks line)
 

@@ -1,5 +1,5 @@
 -- Reading all that a name holds.
-use Rattle.std.specs.Prelude.{◌≡◌, ◌⊎◌, ℕ, ◌+◌, ◌<◌, ◌≤◌, List, length, take, Bool, IsTrue, Option, Some, None, IfSome}
+use Rattle.std.specs.Prelude.{◌≡◌, ◌⊎◌, ℕ, ◌+◌, ◌<◌, ◌≤◌, List, length, take, Bool, IsTrue, Option, Some, None, IsSomeAnd}
 use Rattle.input_core.specs.declared.read.ReadRefusal.{ReadRefusal}
 use Rattle.input_core.specs.declared.read.ReadRefusal.TheVariants.{Fault, TooLong, Memory}
 use Rattle.input_core.specs.Causes.{Rose}
@@ -11,7 +11,7 @@ pub record IsWhole (tells : Bool) (held : Option (List ℕ)) (limit : ℕ) (byte
 
 abbrev pub ReadFails : Bool → Option (List ℕ) → ℕ → ℕ → ℕ → ReadRefusal → Type 0
 ReadFails tells held before now limit Fault = Rose before now ⊎ (IsTrue tells × (held ≡ None))
-ReadFails tells held before now limit (TooLong taken) = (taken ≡ limit + 1) × (IsTrue tells → IfSome held (λ bytes. limit < length bytes))
+ReadFails tells held before now limit (TooLong taken) = (taken ≡ limit + 1) × (IsTrue tells → IsSomeAnd held (λ bytes. limit < length bytes))
 ReadFails tells held before now limit Memory = Unit {0}
 
 -- a step of the reading: the next n bytes came to the end, none only where all are there

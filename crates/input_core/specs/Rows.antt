@@ -1,7 +1,7 @@
 -- The lines of a text that have fields, with their numbers, and the faults of single bytes among them.
 use Rattle.std.specs.Prelude.{◌≡◌, ℕ, ◌+◌, Bool, true, false, if◌then◌else◌, List, [], ◌∷◌, length, Option, Some, None, Result, Ok, Err}
 use Rattle.std.specs.List.{list_all}
-use Rattle.input_core.specs.Lines.{lines_of, fields_of, is_allowed}
+use Rattle.input_core.specs.Lines.{lines_of, fields_of, is_field, is_allowed}
 use Rattle.input_core.specs.declared.faults.LineFault.{LineFault}
 use Rattle.input_core.specs.declared.faults.LineKind.TheVariants.{Byte, Missing}
 use Rattle.input_core.specs.declared.cursors.Row.{Row}
@@ -50,3 +50,8 @@ TakesRow read (Err fault) new = read ≡ Err fault
 abbrev pub list_is_empty : List (List ℕ) → Bool
 list_is_empty [] = true
 list_is_empty (x ∷ xs) = false
+
+-- whether the fields of a line are fields; they are in every text
+abbrev pub are_fields : Result Row LineFault → Bool
+are_fields (Ok row) = list_all is_field row.fields
+are_fields (Err fault) = true

@@ -84,6 +84,17 @@ impl From<AllocError> for TextFault {
     }
 }
 
+impl From<Memory> for TextFault {
+    ghost use Rattle.std.specs.Prelude.{◌≡◌};
+    ghost use Rattle.input_core.specs.declared.faults.TextFault.TheVariants as faults;
+
+    ghost from_gives = { λ _ e. e ≡ faults.Memory };
+
+    fn from(_: Memory) -> TextFault {
+        TextFault::Memory
+    }
+}
+
 impl From<LineFault> for TextFault {
     ghost use Rattle.std.specs.Prelude.{◌≡◌};
     ghost use Rattle.input_core.specs.declared.faults.TextFault.TheVariants.{Line};

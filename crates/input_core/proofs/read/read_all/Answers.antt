@@ -13,4 +13,4 @@ returns-then-count-eq0-clause-bytes g c =
     c.pieces.invariant.front (omega arith)
 
 pub returns-clause-cause : goal.returns-clause-cause
-returns-clause-cause g c = (omega arith, λ told. too_long (g.S.Shelf.tells c.args.shelf.now) (g.S.Shelf.held c.args.shelf.now c.args.name.now) c.args.limit c.pieces.bytes.items c.pieces.invariant.front (omega arith) told)
+returns-clause-cause g c = (omega arith, λ told. too_long (g.S.Shelf.tells c.args.shelf.now) (g.S.Shelf.held c.args.shelf.now c.args.name.now) c.args.limit c.pieces.bytes.items c.pieces.invariant.front c.pieces.invariant.there (omega arith) told)

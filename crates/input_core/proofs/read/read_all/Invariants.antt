@@ -1,5 +1,5 @@
 use Rattle.std.proofs.Common.{◌+◌, ◌-◌, ◌≡◌, ◌≤◌, List, ℕ, length, take}
-use Rattle.std.specs.Prelude.{IsTrue, Some}
+use Rattle.std.specs.Prelude.{IsTrue, Some, None}
 use Rattle.input_core.specs.Shelf.{OnlyReads}
 use Rattle.input_core.proofs.read.read_all.Given as goal
 
@@ -10,6 +10,7 @@ invariant-pieces g l =
       bound : length l.bytes.items ≤ l.limit + 1;
       room : length l.piece.items ≡ 65536;
       front : IsTrue (s.tells l.fn.shelf) → (all : List ℕ) → s.held l.fn.shelf l.name ≡ Some all → l.bytes.items ≡ take (length l.bytes.items) all;
+      there : IsTrue (s.tells l.fn.shelf) → s.held l.fn.shelf l.name ≡ None → length l.bytes.items ≡ 0;
       only : OnlyReads s.tells s.held s.piece_faults s.put_faults l.fn.shelf l.shelf;
     }
 

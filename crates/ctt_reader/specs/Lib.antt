@@ -1,0 +1,5 @@
+pub mod Names
+pub mod Entries
+pub mod Grammar
+pub mod Steps
+pub mod Promised

@@ -1,0 +1,20 @@
+use Rattle.std.proofs.Common.{rules, ◌^◌, SFits, to_z-of_z}
+use Rattle.std.specs.Int.{w128}
+use Rattle.std.specs.List.{list_all}
+use Rattle.exact_num.specs.Over.{over_self}
+use Rattle.exact_num.specs.Ops.{◌+ℚ◌}
+use Rattle.exact_num.specs.Work.{below, sum_work}
+use Rattle.exact_num.specs.Value128.{value_128}
+use Rattle.exact_num.proofs.Settled.{settled, sum-over}
+use Rattle.exact_num.proofs.exact.Exact128Arith.add.Goals as goal
+
+pub returns : goal.returns
+returns c =
+    let f0 : SFits w128 c.args.a.num = search rules in
+    let f1 : SFits w128 c.args.a.den = search rules in
+    let f2 : SFits w128 c.args.b.num = search rules in
+    let f3 : SFits w128 c.args.b.den = search rules in
+    let h = c.sum_parts-found.ensures in
+    settled value_128 (2 ^ 127) (list_all (below (2 ^ 127)) (sum_work (value_128 c.args.a) (value_128 c.args.b))) _ _ ((value_128 c.args.a) +ℚ (value_128 c.args.b)) _ _ c.sum_parts-found.result c.settled.result
+    (simp (to_z-of_z) at h) c.settled.ensures
+    (sum-over (value_128 c.args.a) (value_128 c.args.b) c.args.a.num c.args.a.den c.args.b.num c.args.b.den (over_self (value_128 c.args.a)) (over_self (value_128 c.args.b)))

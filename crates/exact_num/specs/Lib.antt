@@ -1,0 +1,16 @@
+pub mod Cross
+pub mod Q
+pub mod Over
+pub mod Ops
+pub mod Sums
+pub mod Order
+pub mod Reduced
+pub mod Work
+pub mod Arith
+pub mod Whole
+pub mod Multiples
+pub mod Denominators
+pub mod Signs
+pub mod Value128
+pub mod Value64
+pub mod Halving

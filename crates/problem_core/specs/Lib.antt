@@ -1,0 +1,16 @@
+pub mod Below
+pub mod Facts
+pub mod Choice
+pub mod Measures
+pub mod FirstChoice
+pub mod Faults
+pub mod Courses
+pub mod Tables
+pub mod Taken
+pub mod Grids
+pub mod OfParts
+pub mod Limits
+pub mod Kept
+pub mod Sums
+pub mod SharedSlots
+pub mod Rows

@@ -1,0 +1,151 @@
+-- An answer that is explained, in a run in which no call fails, is the expected one.
+use Rattle.std.proofs.Common.{ℕ, ◌≡◌, ◌⊎◌, inl, inr, ◌<◌, ◌≤◌, ◌+◌, refl, sym, ◌∙◌, ap, subst, arith, zero, suc, List, [], ◌∷◌, ◌++◌, length, take, Bool, true, false, get_or}
+use Rattle.std.specs.Prelude.{Option, Some, None, Result, Ok, Err, IsTrue, nat_lt, ◌==◌}
+use Rattle.std.proofs.lemmas.Bool.{le-ltb, lt-ltb, ne_eqb, eq-eqb, cases_Bool}
+use Rattle.std.proofs.lemmas.List.{take_all}
+use Rattle.std.proofs.Math.Seq.{take-suc}
+use Rattle.numbers.specs.Below.{first_from}
+use Rattle.input_core.specs.Causes.{Rose}
+use Rattle.input_core.specs.Reading.{IsWhole}
+use Rattle.input_core.specs.declared.faults.LineFault.{LineFault}
+use Rattle.problem_core.specs.Facts.{Facts}
+use Rattle.problem_core.specs.Limits.{limit_of}
+use Rattle.problem_core.specs.FirstChoice.{IsFirstChoice, can_take}
+use Rattle.ctt_reader.specs.declared.instance.Instance.{Instance}
+use Rattle.timed_solution.specs.declared.times.Times.{Times}
+use Rattle.room_model.specs.ProblemOf.{problem_of}
+use Rattle.rooms_cmd.specs.Words.{Command, command}
+use Rattle.rooms_cmd.specs.Words.Command.{Solve}
+use Rattle.rooms_cmd.specs.Texts.{read_fault_text, too_long_text, unplaced}
+use Rattle.rooms_cmd.specs.Run.{limit, Held, GivesInstance, GivesTimes, IsUnread, IsLong, IsRefused, IsFaultyInstance, IsFaultyTimes, IsPlaced, SolveExplains, Explains, Prints, Grew, RunEnds, IsSolve}
+use Rattle.rooms_cmd.specs.Expected.{Printed, printed, choice_up_to, first_choice_of, of_file, of_text, of_choice, of_problem, times_with, of_times, of_solve, of_command, expected, IsQuiet, AnswersExpected, IsAccepted}
+use Rattle.rooms_cmd.specs.declared.status.Status.{Status}
+use Rattle.rooms_cmd.specs.declared.status.Status.TheVariants.{Done, Usage, BadInput, ReadFault, WriteFault, Memory, Unplaced}
+
+-- ---- a file
+
+of_whole : (tells : Bool) (held : Option (List ℕ)) (name bytes : List ℕ) (next : List ℕ → Printed) → IsTrue tells → IsWhole tells held limit bytes → of_file name held next ≡ next bytes
+of_whole tells held name bytes next told whole =
+    ap (λ h. of_file name h next) (whole.whole told) ∙ rw (le-ltb limit (length bytes) whole.short) refl
+
+of_long : (tells : Bool) (held : Option (List ℕ)) (name : List ℕ) (next : List ℕ → Printed) → IsTrue tells → IsLong tells held → of_file name held next ≡ printed BadInput (too_long_text name)
+of_long tells None name next told long = absurd (long told)
+of_long tells (Some bytes) name next told long = rw (lt-ltb limit (length bytes) (long told)) refl
+
+of_unread : (tells : Bool) (held : Option (List ℕ)) (name : List ℕ) (next : List ℕ → Printed) (before now : ℕ) → (Rose before now → ⊥) → IsUnread tells held before now → of_file name held next ≡ printed ReadFault (read_fault_text name)
+of_unread tells held name next before now quiet (inl rose) = absurd (quiet rose)
+of_unread tells held name next before now quiet (inr unknown) = ap (λ h. of_file name h next) unknown.1
+
+-- ---- the two files
+
+of_instance : (tells : Bool) (held : Held) (n m : List ℕ) (i : Instance) → IsTrue tells → GivesInstance tells (held n) i → of_solve held n m ≡ of_times held m i
+of_instance tells held n m i told g =
+    of_whole tells (held n) n g.bytes _ told g.whole ∙ ap (λ r. of_text n r (of_times held m)) g.text
+
+of_both : (tells : Bool) (held : Held) (n m : List ℕ) (i : Instance) (t : Times) → IsTrue tells → GivesInstance tells (held n) i → GivesTimes tells (held m) i t
+    → of_solve held n m ≡ of_problem i t (limit_of (problem_of i t))
+of_both tells held n m i t told g h =
+    of_instance tells held n m i told g ∙ of_whole tells (held m) m h.bytes _ told h.whole ∙ ap (λ r. of_text m r (λ meetings. of_problem i (times_with meetings) (limit_of (problem_of i (times_with meetings))))) h.text
+
+-- ---- the first choice is one
+
+first_up_to : (p : Facts) (a : List ℕ) → IsFirstChoice p a → (n : ℕ) → n ≤ length a → take n a ≡ choice_up_to p n
+first_up_to p a is zero l = refl
+first_up_to p a is (suc n) l =
+    let before : take n a ≡ choice_up_to p n = first_up_to p a is n (omega arith) in
+    take-suc a n 0 (omega arith) ∙ ap (λ x. take n a ++ x ∷ []) (is.lowest n (omega arith))
+    ∙ ap (λ xs. xs ++ first_from (can_take p xs n) 0 (length p.capacity) ∷ []) before
+
+first_is : (p : Facts) (a : List ℕ) → IsFirstChoice p a → a ≡ first_choice_of p
+first_is p a is = sym (take_all (length a) a (omega arith)) ∙ first_up_to p a is (length a) (omega arith) ∙ ap (choice_up_to p) is.one_each
+
+of_placed : (tells : Bool) (held : Held) (n m : List ℕ) (i : Instance) (t : Times) (a : List ℕ) → IsTrue tells → IsPlaced tells held n m i t a → of_solve held n m ≡ of_choice i t a
+of_placed tells held n m i t a told p =
+    of_both tells held n m i t told p.instance p.times ∙ ap (of_problem i t) p.few ∙ ap (of_choice i t) (sym (first_is (problem_of i t) a p.first))
+
+-- ---- what `solve` explains
+
+of_refused_instance : (tells : Bool) (held : Held) (n m text : List ℕ) → IsTrue tells → IsRefused tells (held n) (IsFaultyInstance tells (held n)) n text → of_solve held n m ≡ printed BadInput text
+of_refused_instance tells held n m text told (inl long) = of_long tells (held n) n _ told long.0 ∙ ap (printed BadInput) (sym long.1)
+of_refused_instance tells held n m text told (inr faulty) =
+    let f = faulty.1 in
+    of_whole tells (held n) n f.bytes _ told f.whole ∙ ap (λ r. of_text n r (of_times held m)) f.refused ∙ ap (printed BadInput) (sym faulty.2)
+
+of_refused_times : (tells : Bool) (held : Held) (m text : List ℕ) (i : Instance) → IsTrue tells → IsRefused tells (held m) (IsFaultyTimes tells (held m) i) m text → of_times held m i ≡ printed BadInput text
+of_refused_times tells held m text i told (inl long) = of_long tells (held m) m _ told long.0 ∙ ap (printed BadInput) (sym long.1)
+of_refused_times tells held m text i told (inr faulty) =
+    let f = faulty.1 in
+    of_whole tells (held m) m f.bytes _ told f.whole ∙ ap (λ r. of_text m r (λ meetings. of_problem i (times_with meetings) (limit_of (problem_of i (times_with meetings))))) f.refused ∙ ap (printed BadInput) (sym faulty.2)
+
+of_explained : (tells : Bool) (held : Held) (n m : List ℕ) (before now : ℕ) (text : List ℕ) (status : Status)
+    → IsTrue tells → (Rose before now → ⊥) → SolveExplains tells held n m before now text status → of_solve held n m ≡ printed status text
+of_explained tells held n m before now text Done told quiet h =
+    of_placed tells held n m h.i h.t h.a told h.placed ∙ rw (eq-eqb (unplaced h.a) 0 h.all) (ap (printed Done) (sym h.is))
+of_explained tells held n m before now text Unplaced told quiet h =
+    of_placed tells held n m h.i h.t h.a told h.placed ∙ rw (ne_eqb (unplaced h.a) 0 (λ none. absurd (omega (arith, none, h.some)))) (ap (printed Unplaced) (sym h.is))
+of_explained tells held n m before now text BadInput told quiet (inl h) = of_refused_instance tells held n m text told h
+of_explained tells held n m before now text BadInput told quiet (inr (inl h)) =
+    of_instance tells held n m h.i told h.instance ∙ of_refused_times tells held m text h.i told h.refused
+of_explained tells held n m before now text BadInput told quiet (inr (inr h)) =
+    of_both tells held n m h.i h.t told h.instance h.times ∙ ap (of_problem h.i h.t) h.passed ∙ ap (printed BadInput) (sym h.is)
+of_explained tells held n m before now text ReadFault told quiet (inl h) =
+    of_unread tells (held n) n _ before now quiet h.0 ∙ ap (printed ReadFault) (sym h.1)
+of_explained tells held n m before now text ReadFault told quiet (inr h) =
+    of_instance tells held n m h.i told h.instance ∙ of_unread tells (held m) m _ before now quiet h.unread ∙ ap (printed ReadFault) (sym h.is)
+of_explained tells held n m before now text Usage told quiet h = absurd h
+of_explained tells held n m before now text WriteFault told quiet h = absurd h
+of_explained tells held n m before now text Memory told quiet h = absurd h
+
+-- ---- what a run explains
+
+of_asked : (tells : Bool) (held : Held) (words : List (List ℕ)) (n m : List ℕ) (before now : ℕ) (text : List ℕ) (status : Status)
+    → IsTrue tells → (Rose before now → ⊥) → command words ≡ Some (Solve n m) → SolveExplains tells held n m before now text status
+    → expected held words ≡ printed status text
+of_asked tells held words n m before now text status told quiet e h = ap (of_command held) e ∙ of_explained tells held n m before now text status told quiet h
+
+pub explained_is_expected : (tells : Bool) (held : Held) (words : List (List ℕ)) (before now : ℕ) (text : List ℕ) (status : Status)
+    → IsTrue tells → (Rose before now → ⊥) → Explains tells held words before now text status → expected held words ≡ printed status text
+explained_is_expected tells held words before now text Usage told quiet h = ap (of_command held) h.none ∙ ap (printed Usage) (sym h.is)
+explained_is_expected tells held words before now text Done told quiet h = of_asked tells held words _ _ before now text Done told quiet h.is h.holds
+explained_is_expected tells held words before now text Unplaced told quiet h = of_asked tells held words _ _ before now text Unplaced told quiet h.is h.holds
+explained_is_expected tells held words before now text BadInput told quiet h = of_asked tells held words _ _ before now text BadInput told quiet h.is h.holds
+explained_is_expected tells held words before now text ReadFault told quiet h = of_asked tells held words _ _ before now text ReadFault told quiet h.is h.holds
+explained_is_expected tells held words before now text WriteFault told quiet h = absurd h.holds
+explained_is_expected tells held words before now text Memory told quiet h = absurd h.holds
+
+-- ---- how a run ends
+
+printed_expected : (tells : Bool) (held : Held) (words : List (List ℕ)) (before now : ℕ) (old new : Option (List ℕ)) (status : Status)
+    → IsTrue tells → (Rose before now → ⊥) → Prints old new (λ text. Explains tells held words before now text status)
+    → AnswersExpected held words old new status
+printed_expected tells held words before now old new status told quiet p =
+    let e = explained_is_expected tells held words before now p.text status told quiet p.why in
+    inr (sym (ap (λ (x : Printed). x.status) e), subst (Grew old new) (sym (ap (λ (x : Printed). x.text) e)) p.grew)
+
+pub quiet_run : (tells : Bool) (held : Held) (words : List (List ℕ)) (before now faults faults' : ℕ) (old new : Option (List ℕ)) (status : Status)
+    → RunEnds tells held words before now faults faults' old new status → IsQuiet tells before now faults faults' → AnswersExpected held words old new status
+quiet_run tells held words before now faults faults' old new Done h q = printed_expected tells held words before now old new Done q.told q.reads h
+quiet_run tells held words before now faults faults' old new Unplaced h q = printed_expected tells held words before now old new Unplaced q.told q.reads h
+quiet_run tells held words before now faults faults' old new Usage h q = printed_expected tells held words before now old new Usage q.told q.reads h
+quiet_run tells held words before now faults faults' old new BadInput h q = printed_expected tells held words before now old new BadInput q.told q.reads h
+quiet_run tells held words before now faults faults' old new ReadFault h q = printed_expected tells held words before now old new ReadFault q.told q.reads h
+quiet_run tells held words before now faults faults' old new WriteFault h q = absurd (q.writes h.rose)
+quiet_run tells held words before now faults faults' old new Memory h q = inl refl
+
+of_choice_status : (i : Instance) (t : Times) (a : List ℕ) → ((of_choice i t a).status ≡ Done) ⊎ ((of_choice i t a).status ≡ Unplaced)
+of_choice_status i t a = elim (cases_Bool (unplaced a == 0)) [ inl e ↦ inl (rw e refl) | inr e ↦ inr (rw e refl) ]
+
+pub complete_run : (tells : Bool) (held : Held) (words : List (List ℕ)) (before now faults faults' : ℕ) (old new : Option (List ℕ)) (status : Status)
+    → RunEnds tells held words before now faults faults' old new status → IsQuiet tells before now faults faults' → IsSolve words (IsAccepted tells held)
+    → (status ≡ Done) ⊎ ((status ≡ Unplaced) ⊎ (status ≡ Memory))
+complete_run tells held words before now faults faults' old new status h q s =
+    let f = s.holds in
+    let e : expected held words ≡ of_choice f.i f.t (first_choice_of (problem_of f.i f.t)) =
+    ap (of_command held) s.is ∙ of_both tells held s.instance_name s.times_name f.i f.t q.told f.instance f.times ∙ ap (of_problem f.i f.t) f.few in
+    elim (quiet_run tells held words before now faults faults' old new status h q) [
+      | inl memory ↦ inr (inr memory)
+      | inr answered ↦ elim (of_choice_status f.i f.t (first_choice_of (problem_of f.i f.t))) [
+        | inl d ↦ inl (answered.0 ∙ ap (λ (x : Printed). x.status) e ∙ d)
+        | inr d ↦ inr (inl (answered.0 ∙ ap (λ (x : Printed). x.status) e ∙ d))
+      ]
+    ]

@@ -1,0 +1,2 @@
+mod SolveLaws
+mod ExpectedLaws

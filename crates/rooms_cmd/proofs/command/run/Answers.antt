@@ -1,0 +1,10 @@
+use Rattle.std.proofs.Common.{subst}
+use Rattle.rooms_cmd.specs.Run.{RunEnds}
+use Rattle.rooms_cmd.proofs.ExpectedLaws.{quiet_run, complete_run}
+use Rattle.rooms_cmd.proofs.command.run.Goals as goal
+
+pub returns-clause-quiet : goal.returns-clause-quiet
+returns-clause-quiet g c = quiet_run _ _ _ _ _ _ _ _ _ _ c.respond.ensures.ends
+
+pub returns-clause-complete : goal.returns-clause-complete
+returns-clause-complete g c = complete_run _ _ _ _ _ _ _ _ _ _ c.respond.ensures.ends

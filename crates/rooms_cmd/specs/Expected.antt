@@ -1,0 +1,91 @@
+-- What a run in which no call fails answers, from the words and from what the names hold.
+use Rattle.std.specs.Prelude.{ℕ, ◌≡◌, ◌⊎◌, Bool, IsTrue, zero, suc, List, [], ◌∷◌, ◌++◌, length, Option, Some, None, Result, Ok, Err, nat_lt, ◌==◌, if◌then◌else◌}
+use Rattle.numbers.specs.Below.{first_from}
+use Rattle.input_core.specs.declared.faults.LineFault.{LineFault}
+use Rattle.problem_core.specs.declared.limit.Limit.{Limit}
+use Rattle.problem_core.specs.Facts.{Facts}
+use Rattle.problem_core.specs.FirstChoice.{can_take}
+use Rattle.problem_core.specs.Limits.{limit_of}
+use Rattle.ctt_reader.specs.declared.instance.Instance.{Instance}
+use Rattle.ctt_reader.specs.Grammar.{ctt_of}
+use Rattle.timed_solution.specs.declared.times.Times.{Times}
+use Rattle.timed_solution.specs.declared.times.Meeting.{Meeting}
+use Rattle.timed_solution.specs.Times.{times_of}
+use Rattle.room_model.specs.ProblemOf.{problem_of}
+use Rattle.rooms_cmd.specs.Words.{Command, command}
+use Rattle.rooms_cmd.specs.Words.Command.{Solve}
+use Rattle.rooms_cmd.specs.Texts.{usage_text, read_fault_text, too_long_text, bad_line_text, over_limit_text, unplaced, unplaced_text, placed_text}
+use Rattle.input_core.specs.Causes.{Rose}
+use Rattle.rooms_cmd.specs.Run.{limit, Held, Grew, GivesInstance, GivesTimes}
+use Rattle.rooms_cmd.specs.declared.status.Status.{Status}
+use Rattle.rooms_cmd.specs.declared.status.Status.TheVariants as statuses
+
+pub record Printed : Type 0 where
+  pub status : Status
+  pub text : List ℕ
+
+abbrev pub printed : Status → List ℕ → Printed
+printed status text = record { status = status; text = text }
+
+-- the first choice of the first events: each takes the lowest room that it can take beside those before it
+abbrev pub choice_up_to : Facts → ℕ → List ℕ
+choice_up_to p zero = []
+choice_up_to p (suc e) = choice_up_to p e ++ first_from (can_take p (choice_up_to p e) e) 0 (length p.capacity) ∷ []
+
+abbrev pub first_choice_of : Facts → List ℕ
+first_choice_of p = choice_up_to p (length p.events)
+
+-- the bytes of a file that is there and not too long
+abbrev pub of_file : List ℕ → Option (List ℕ) → (List ℕ → Printed) → Printed
+of_file name None next = printed statuses.ReadFault (read_fault_text name)
+of_file name (Some bytes) next = if nat_lt limit (length bytes) then printed statuses.BadInput (too_long_text name) else next bytes
+
+-- the value of a text, or its first fault
+abbrev pub of_text : {X : Type 0} → List ℕ → Result X LineFault → (X → Printed) → Printed
+of_text name (Err fault) next = printed statuses.BadInput (bad_line_text name fault)
+of_text name (Ok x) next = next x
+
+abbrev pub of_choice : Instance → Times → List ℕ → Printed
+of_choice i t a = if unplaced a == 0 then printed statuses.Done (placed_text i t a) else printed statuses.Unplaced (unplaced_text (unplaced a))
+
+abbrev pub of_problem : Instance → Times → Option Limit → Printed
+of_problem i t (Some over) = printed statuses.BadInput (over_limit_text over)
+of_problem i t None = of_choice i t (first_choice_of (problem_of i t))
+
+abbrev pub times_with : List Meeting → Times
+times_with meetings = record { meetings = meetings }
+
+abbrev pub of_times : Held → List ℕ → Instance → Printed
+of_times held m i = of_file m (held m) (λ bytes. of_text m (times_of i bytes) (λ meetings. of_problem i (times_with meetings) (limit_of (problem_of i (times_with meetings)))))
+
+-- the instance first, then the times, then the limits of their problem
+abbrev pub of_solve : Held → List ℕ → List ℕ → Printed
+of_solve held n m = of_file n (held n) (λ bytes. of_text n (ctt_of bytes) (of_times held m))
+
+abbrev pub of_command : Held → Option Command → Printed
+of_command held None = printed statuses.Usage usage_text
+of_command held (Some (Solve n m)) = of_solve held n m
+
+abbrev pub expected : Held → List (List ℕ) → Printed
+expected held words = of_command held (command words)
+
+-- ---- the runs in which no call fails
+
+-- the shelf tells what its names hold, and no count of faults rose
+pub record IsQuiet (tells : Bool) (before now faults faults' : ℕ) : Type 0 where
+  pub told : IsTrue tells
+  pub reads : Rose before now → ⊥
+  pub writes : Rose faults faults' → ⊥
+
+-- memory ran out, or the status is the expected one and the sink grew by the expected text
+abbrev pub AnswersExpected : Held → List (List ℕ) → Option (List ℕ) → Option (List ℕ) → Status → Type 0
+AnswersExpected held words old new status =
+    (status ≡ statuses.Memory) ⊎ ((status ≡ (expected held words).status) × Grew old new (expected held words).text)
+
+-- the two files give an instance and times whose problem passes no limit
+pub record IsAccepted (tells : Bool) (held : Held) (n m : List ℕ) : Type 0 where
+  pub i : Instance
+  pub t : Times
+  pub instance : GivesInstance tells (held n) i
+  pub times : GivesTimes tells (held m) i t
+  pub few : limit_of (problem_of i t) ≡ None

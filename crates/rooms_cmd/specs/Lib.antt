@@ -1,0 +1,5 @@
+pub mod Numbers
+pub mod Words
+pub mod Texts
+pub mod Run
+pub mod Expected

@@ -1,0 +1,230 @@
+-- What a run answers, and why.
+use Rattle.std.specs.Prelude.{ℕ, ◌≡◌, ◌≢◌, ◌⊎◌, ◌<◌, ◌≤◌, ◌+◌, List, [], ◌∷◌, ◌++◌, length, take, Bool, IsTrue, Option, Some, None, IsSomeAnd, IfSome, Result, Ok, Err}
+use Rattle.input_core.specs.Causes.{Rose}
+use Rattle.input_core.specs.Reading.{IsWhole}
+use Rattle.input_core.specs.declared.faults.LineFault.{LineFault}
+use Rattle.problem_core.specs.declared.limit.Limit.{Limit}
+use Rattle.problem_core.specs.Facts.{Facts}
+use Rattle.problem_core.specs.Limits.{limit_of}
+use Rattle.problem_core.specs.Choice.{IsLegal}
+use Rattle.problem_core.specs.Measures.{IsBest}
+use Rattle.problem_core.specs.FirstChoice.{IsFirstChoice}
+use Rattle.ctt_reader.specs.declared.instance.Instance.{Instance}
+use Rattle.ctt_reader.specs.Grammar.{ctt_of}
+use Rattle.timed_solution.specs.declared.times.Times.{Times}
+use Rattle.timed_solution.specs.Times.{times_of}
+use Rattle.room_model.specs.ProblemOf.{problem_of}
+use Rattle.rooms_cmd.specs.Words.{Command, command}
+use Rattle.rooms_cmd.specs.Words.Command.{Solve}
+use Rattle.rooms_cmd.specs.Texts.{usage_text, read_fault_text, too_long_text, bad_line_text, over_limit_text, unplaced, unplaced_text, placed_text}
+use Rattle.rooms_cmd.specs.declared.status.Status.{Status}
+use Rattle.rooms_cmd.specs.declared.status.Status.TheVariants as statuses
+use Rattle.rooms_cmd.specs.declared.answer.Stop.{Stop}
+use Rattle.rooms_cmd.specs.declared.answer.Stop.TheVariants as stops
+
+-- the most bytes of an input file
+abbrev pub limit : ℕ
+limit = 16777216
+
+abbrev pub Held : Type 0
+Held = List ℕ → Option (List ℕ)
+
+-- ---- what the files give
+
+-- what was read is the text of the instance, and all that the name holds, where the shelf tells it
+pub record GivesInstance (tells : Bool) (held : Option (List ℕ)) (i : Instance) : Type 0 where
+  pub bytes : List ℕ
+  pub whole : IsWhole tells held limit bytes
+  pub text : ctt_of bytes ≡ Ok i
+
+pub record GivesTimes (tells : Bool) (held : Option (List ℕ)) (i : Instance) (t : Times) : Type 0 where
+  pub bytes : List ℕ
+  pub whole : IsWhole tells held limit bytes
+  pub text : times_of i bytes ≡ Ok t.meetings
+
+-- why a file is not read: a call failed, or the shelf tells that there is no such name
+abbrev pub IsUnread : Bool → Option (List ℕ) → ℕ → ℕ → Type 0
+IsUnread tells held before now = Rose before now ⊎ (IsTrue tells × (held ≡ None))
+
+abbrev pub IsLong : Bool → Option (List ℕ) → Type 0
+IsLong tells held = IsTrue tells → IsSomeAnd held (λ bytes. limit < length bytes)
+
+-- the bytes of the instance are no text of an instance: the fault is the first
+pub record IsFaultyInstance (tells : Bool) (held : Option (List ℕ)) (fault : LineFault) : Type 0 where
+  pub bytes : List ℕ
+  pub whole : IsWhole tells held limit bytes
+  pub refused : ctt_of bytes ≡ Err fault
+
+pub record IsFaultyTimes (tells : Bool) (held : Option (List ℕ)) (i : Instance) (fault : LineFault) : Type 0 where
+  pub bytes : List ℕ
+  pub whole : IsWhole tells held limit bytes
+  pub refused : times_of i bytes ≡ Err fault
+
+-- the file of this name is refused, and why: it is too long, or its first fault is named
+abbrev pub IsRefused : Bool → Option (List ℕ) → (LineFault → Type 0) → List ℕ → List ℕ → Type 0
+IsRefused tells held faulty name text =
+    (IsLong tells held × (text ≡ too_long_text name)) ⊎ ((fault : LineFault) × faulty fault × (text ≡ bad_line_text name fault))
+
+-- a file has no fault, or none that is looked for
+abbrev pub NoFault : LineFault → Type 0
+NoFault fault = ⊥
+
+-- why the file of this name stops a command, and what is printed
+abbrev pub FileStops : Bool → Option (List ℕ) → ℕ → ℕ → (LineFault → Type 0) → List ℕ → List ℕ → Status → Type 0
+FileStops tells held before now faulty name text statuses.ReadFault = IsUnread tells held before now × (text ≡ read_fault_text name)
+FileStops tells held before now faulty name text statuses.BadInput = IsRefused tells held faulty name text
+FileStops tells held before now faulty name text status = ⊥
+
+-- an answer that ends a command is explained; want of memory is free
+abbrev pub Stops : (List ℕ → Status → Type 0) → Stop → Type 0
+Stops explain (stops.Answer a) = explain a.text.items a.status
+Stops explain stops.Memory = Unit {0}
+
+-- ---- what `solve` answers, from the names of its files
+
+-- the two files give an instance and times within the limits, and a is the first choice of their problem
+pub record IsPlaced (tells : Bool) (held : Held) (n m : List ℕ) (i : Instance) (t : Times) (a : List ℕ) : Type 0 where
+  pub instance : GivesInstance tells (held n) i
+  pub times : GivesTimes tells (held m) i t
+  pub few : limit_of (problem_of i t) ≡ None
+  pub first : IsFirstChoice (problem_of i t) a
+
+-- every meeting has a room; the choice is legal, and no legal choice has more event hours
+pub record IsDone (tells : Bool) (held : Held) (n m : List ℕ) (text : List ℕ) : Type 0 where
+  pub i : Instance
+  pub t : Times
+  pub a : List ℕ
+  pub placed : IsPlaced tells held n m i t a
+  pub all : unplaced a ≡ 0
+  pub legal : IsLegal (problem_of i t) a
+  pub best : IsBest (problem_of i t) 1 a
+  pub is : text ≡ placed_text i t a
+
+-- the first choice leaves some meetings without a room
+pub record IsUnplaced (tells : Bool) (held : Held) (n m : List ℕ) (text : List ℕ) : Type 0 where
+  pub i : Instance
+  pub t : Times
+  pub a : List ℕ
+  pub placed : IsPlaced tells held n m i t a
+  pub some : 0 < unplaced a
+  pub is : text ≡ unplaced_text (unplaced a)
+
+-- the problem of the two files passes a limit
+pub record IsOverLimit (tells : Bool) (held : Held) (n m text : List ℕ) : Type 0 where
+  pub i : Instance
+  pub t : Times
+  pub instance : GivesInstance tells (held n) i
+  pub times : GivesTimes tells (held m) i t
+  pub over : Limit
+  pub passed : limit_of (problem_of i t) ≡ Some over
+  pub is : text ≡ over_limit_text over
+
+-- the instance is read, and the times are not
+pub record IsUnreadTimes (tells : Bool) (held : Held) (n m : List ℕ) (before now : ℕ) (text : List ℕ) : Type 0 where
+  pub i : Instance
+  pub instance : GivesInstance tells (held n) i
+  pub unread : IsUnread tells (held m) before now
+  pub is : text ≡ read_fault_text m
+
+-- the instance is read, and the times are refused
+pub record IsRefusedTimes (tells : Bool) (held : Held) (n m text : List ℕ) : Type 0 where
+  pub i : Instance
+  pub instance : GivesInstance tells (held n) i
+  pub refused : IsRefused tells (held m) (IsFaultyTimes tells (held m) i) m text
+
+-- the first file that isn't read is named: the instance, or else the times
+abbrev pub IsReadFault : Bool → Held → List ℕ → List ℕ → ℕ → ℕ → List ℕ → Type 0
+IsReadFault tells held n m before now text =
+    (IsUnread tells (held n) before now × (text ≡ read_fault_text n)) ⊎ IsUnreadTimes tells held n m before now text
+
+-- the first refusal is printed: of the instance, else of the times, else of their problem
+abbrev pub IsBadInput : Bool → Held → List ℕ → List ℕ → List ℕ → Type 0
+IsBadInput tells held n m text =
+    IsRefused tells (held n) (IsFaultyInstance tells (held n)) n text
+    ⊎ (IsRefusedTimes tells held n m text ⊎ IsOverLimit tells held n m text)
+
+abbrev pub SolveExplains : Bool → Held → List ℕ → List ℕ → ℕ → ℕ → List ℕ → Status → Type 0
+SolveExplains tells held n m before now text statuses.Done = IsDone tells held n m text
+SolveExplains tells held n m before now text statuses.Unplaced = IsUnplaced tells held n m text
+SolveExplains tells held n m before now text statuses.BadInput = IsBadInput tells held n m text
+SolveExplains tells held n m before now text statuses.ReadFault = IsReadFault tells held n m before now text
+SolveExplains tells held n m before now text status = ⊥
+
+-- ---- what the words ask for
+
+-- the words are `solve` and two names, of which something is said
+pub record IsSolve (words : List (List ℕ)) (said : List ℕ → List ℕ → Type 0) : Type 0 where
+  pub instance_name : List ℕ
+  pub times_name : List ℕ
+  pub is : command words ≡ Some (Solve instance_name times_name)
+  pub holds : said instance_name times_name
+
+pub record IsUsage (words : List (List ℕ)) (text : List ℕ) : Type 0 where
+  pub none : command words ≡ None
+  pub is : text ≡ usage_text
+
+-- what is to be printed with each status, and why
+abbrev pub Explains : Bool → Held → List (List ℕ) → ℕ → ℕ → List ℕ → Status → Type 0
+Explains tells held words before now text statuses.Usage = IsUsage words text
+Explains tells held words before now text status = IsSolve words (λ n m. SolveExplains tells held n m before now text status)
+
+-- ---- what a run leaves
+
+-- the sink's bytes grew by exactly this text, where it tells them
+abbrev pub Grew : Option (List ℕ) → Option (List ℕ) → List ℕ → Type 0
+Grew old new text = IfSome old (λ before. new ≡ Some (before ++ text))
+
+-- the text of the answer was printed, and this is why
+pub record Prints (old new : Option (List ℕ)) (because : List ℕ → Type 0) : Type 0 where
+  pub text : List ℕ
+  pub why : because text
+  pub grew : Grew old new text
+
+-- a front of the text that was to be printed came out, and the sink's count of faults rose
+pub record IsWriteFault (tells : Bool) (held : Held) (words : List (List ℕ)) (before now faults faults' : ℕ) (old new : Option (List ℕ)) : Type 0 where
+  pub status : Status
+  pub text : List ℕ
+  pub explained : Explains tells held words before now text status
+  pub rose : Rose faults faults'
+  pub size : ℕ
+  pub within : size ≤ length text
+  pub grew : Grew old new (take size text)
+
+-- printing: the status stays where the write went well
+abbrev pub PrintEnds : ℕ → ℕ → Option (List ℕ) → Option (List ℕ) → Status → List ℕ → Status → Type 0
+PrintEnds faults faults' old new wanted text status =
+    ((status ≡ wanted) × Grew old new text)
+    ⊎ (((status ≡ statuses.WriteFault) × Rose faults faults' × ((size : ℕ) × (size ≤ length text) × Grew old new (take size text)))
+    ⊎ ((status ≡ statuses.Memory) × Grew old new []))
+
+abbrev pub IsProblem : Instance → Times → Facts → Type 0
+IsProblem i t p = (p ≡ problem_of i t) × (limit_of (problem_of i t) ≡ None)
+
+-- the limit that the problem passes is printed
+abbrev pub OverLimitStops : Instance → Times → List ℕ → Status → Type 0
+OverLimitStops i t text status = (status ≡ statuses.BadInput) × ((over : Limit) × (limit_of (problem_of i t) ≡ Some over) × (text ≡ over_limit_text over))
+
+pub record PlacesAll (i : Instance) (t : Times) (text : List ℕ) : Type 0 where
+  pub a : List ℕ
+  pub first : IsFirstChoice (problem_of i t) a
+  pub all : unplaced a ≡ 0
+  pub legal : IsLegal (problem_of i t) a
+  pub best : IsBest (problem_of i t) 1 a
+  pub is : text ≡ placed_text i t a
+
+pub record LeavesSome (i : Instance) (t : Times) (text : List ℕ) : Type 0 where
+  pub a : List ℕ
+  pub first : IsFirstChoice (problem_of i t) a
+  pub some : 0 < unplaced a
+  pub is : text ≡ unplaced_text (unplaced a)
+
+abbrev pub PlaceExplains : Instance → Times → List ℕ → Status → Type 0
+PlaceExplains i t text statuses.Done = PlacesAll i t text
+PlaceExplains i t text statuses.Unplaced = LeavesSome i t text
+PlaceExplains i t text status = ⊥
+
+-- how a run ends, by its status
+abbrev pub RunEnds : Bool → Held → List (List ℕ) → ℕ → ℕ → ℕ → ℕ → Option (List ℕ) → Option (List ℕ) → Status → Type 0
+RunEnds tells held words before now faults faults' old new statuses.WriteFault = IsWriteFault tells held words before now faults faults' old new
+RunEnds tells held words before now faults faults' old new statuses.Memory = Grew old new []
+RunEnds tells held words before now faults faults' old new status = Prints old new (λ text. Explains tells held words before now text status)

@@ -1,0 +1,15 @@
+//! The commands of the program: from words and files to a status and a printed text.
+#![tactic(auto)]
+
+mod answer;
+mod command;
+mod inputs;
+mod solve;
+mod status;
+mod texts;
+
+pub use command::run;
+pub use status::Status;
+
+#[cfg(test)]
+mod tests;
