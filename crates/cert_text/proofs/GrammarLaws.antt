@@ -1,6 +1,6 @@
 -- What is read is spelled so; what is written is read; a state can be finished.
-use Rattle.std.proofs.Common.{ℕ, ◌≡◌, ◌+◌, ◌<◌, ◌≤◌, arith, refl, sym, ◌∙◌, ap, zero, suc, Bool, true, false, cond, not, ◌&&◌, ◌||◌, List, [], ◌∷◌, ◌++◌, append_assoc, map, length, subst, append-nil, length-append}
-use Rattle.std.specs.Prelude.{ℤ, pos, ◌==◌, nat_lt, nat_le, Option, Some, None, is_some}
+use Rattle.std.proofs.Common.{ℕ, ◌≡◌, ◌+◌, ◌<◌, arith, refl, sym, ◌∙◌, ap, zero, suc, Bool, true, false, cond, not, ◌&&◌, ◌||◌, List, [], ◌∷◌, ◌++◌, append_assoc, map, length, subst, append-nil, length-append}
+use Rattle.std.specs.Prelude.{ℤ, pos, ◌==◌, nat_lt, nat_le, Option, Some, None}
 use Rattle.std.specs.List.{list_all, list_any}
 use Rattle.std.proofs.lemmas.Bool.{and_parts, and_from, not-true, not_from_false, eq-eqb, eqb-true, true≢false, lt-ltb, ltb-true, le-leb}
 use Rattle.std.proofs.lemmas.Option.{same_Some, none-some}

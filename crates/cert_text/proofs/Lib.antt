@@ -5,3 +5,4 @@ pub mod TextLaws
 pub mod ReadLaws
 pub mod TakeLaws
 pub mod WriteLaws
+pub mod CountLaws

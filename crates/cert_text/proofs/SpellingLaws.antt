@@ -1,10 +1,10 @@
 -- Each line has one spelling, and the spelling is read.
-use Rattle.std.proofs.Common.{ℕ, ◌≡◌, ◌+◌, ◌^◌, ◌<◌, ◌≤◌, arith, refl, sym, ◌∙◌, ap, zero, suc, Bool, true, false, cond, not, ◌&&◌, List, [], ◌∷◌, ◌++◌, map, length, inl, inr, subst}
-use Rattle.std.specs.Prelude.{◌==◌, nat_le, if◌then◌else◌, Option, Some, None, ℤ, pos, negsuc, codes, option_map}
+use Rattle.std.proofs.Common.{ℕ, ◌≡◌, ◌^◌, ◌≤◌, arith, refl, sym, ◌∙◌, ap, suc, Bool, true, cond, not, ◌&&◌, List, [], ◌∷◌, map, length, inl, inr, subst}
+use Rattle.std.specs.Prelude.{◌==◌, nat_le, Option, Some, None, ℤ, pos, negsuc, codes, option_map}
 use Rattle.std.specs.List.{list_all}
 use Rattle.std.specs.Str.{bytes_eq}
 use Rattle.std.specs.Fmt.{decimal, signed_decimal}
-use Rattle.std.proofs.lemmas.Bool.{and_parts, and_from, not-true, eq-eqb, eqb-true, true≢false, cases_Bool, cond_both, le-leb, leb-true}
+use Rattle.std.proofs.lemmas.Bool.{and_parts, and_from, eq-eqb, eqb-true, true≢false, cases_Bool, cond_both, le-leb, leb-true}
 use Rattle.std.proofs.lemmas.Option.{same_Some, none-some, cond_some}
 use Rattle.duality.specs.declared.row.RowName.{RowName}
 use Rattle.duality.specs.declared.row.RowName.TheVariants.{Base, Cut as CutRow, Level as LevelRow}
@@ -15,7 +15,7 @@ use Rattle.duality.specs.Sums.{rises, is_small}
 use Rattle.cert_text.specs.declared.lines.CertLine.{CertLine}
 use Rattle.cert_text.specs.declared.lines.CertLine.TheVariants.{Head, Sizes, Choice, Values, Cuts, Cut, Level, Unfinished, Node, End}
 use Rattle.cert_text.specs.Numbers.{lacks, cut, joined, opt_then, number_of, signed_of, each_of}
-use Rattle.cert_text.specs.Spelling.{row_text, term_fields, leaf_fields, counted, fields_of, line_text, row_in_bounds, is_zero, term_in_bounds, scale_in_bounds, leaf_in_bounds, in_bounds, is_rising, small_number, value_of, row_named, row_of, term_of, terms_of, counted_terms, leaf_of, only_number, pair_of, as_many, counted_of, six_of, values_of, is_version, head_line, open_line, node_line, level_line, first_line, line_in, line_of}
+use Rattle.cert_text.specs.Spelling.{row_text, term_fields, leaf_fields, counted, fields_of, line_text, row_in_bounds, is_zero, term_in_bounds, leaf_in_bounds, in_bounds, is_rising, small_number, value_of, row_named, row_of, term_of, terms_of, counted_terms, leaf_of, only_number, pair_of, as_many, counted_of, six_of, values_of, head_line, open_line, node_line, level_line, first_line, line_in, line_of}
 use Rattle.cert_text.proofs.NumberLaws.{joined-cut, cut-joined, bytes_are, number_is, number_reads, opt_then_is, up_to_is, up_to_reads, signed_is, signed_reads, plain, decimal_plain, signed_plain_bytes, plain_lacks_blank, all_lack_blank, joined_lacks_feed, each_is, each_reads, each_plain, all_weaker}
 
 -- ---- small numbers

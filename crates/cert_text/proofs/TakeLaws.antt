@@ -1,5 +1,5 @@
 -- A step by counts, and what the line adds, are the step of the text.
-use Rattle.std.proofs.Common.{ℕ, ◌≡◌, ◌+◌, ◌-◌, ◌<◌, ◌≤◌, arith, refl, sym, ◌∙◌, ap, zero, suc, Bool, true, false, cond, ◌&&◌, List, [], ◌∷◌, ◌++◌, length, subst, length-append, add-one}
+use Rattle.std.proofs.Common.{ℕ, ◌≡◌, ◌+◌, ◌-◌, ◌<◌, ◌≤◌, arith, refl, sym, ◌∙◌, ap, zero, suc, Bool, true, false, cond, List, [], ◌∷◌, ◌++◌, length, subst, length-append, add-one}
 use Rattle.std.specs.Prelude.{◌==◌, nat_lt, Option, Some, None, Result, Ok, Err, IfOk, IfErr, MatchResult}
 use Rattle.std.proofs.lemmas.Bool.{and_parts, ne_eqb, lt-ltb, ltb-true, true≢false}
 use Rattle.input_core.specs.declared.faults.LineKind.TheVariants as kinds
@@ -14,10 +14,10 @@ use Rattle.cert_text.specs.declared.lines.CertLine.TheVariants as lines
 use Rattle.cert_text.specs.declared.place.Place.{Place}
 use Rattle.cert_text.specs.declared.place.Place.TheVariants.{Head, Sizes, Choice, Values, Cuts, Cutting, Between, Inside, Loose, After, Over}
 use Rattle.cert_text.specs.declared.reader.Reader.{Reader}
-use Rattle.cert_text.specs.Grammar.{State, Opening, opening_of, with_levels, with_cut, tree_of, step, may_begin}
-use Rattle.cert_text.specs.Grammar.State.{Between as SBetween, Inside as SInside, Loose as SLoose, After as SAfter, Over as SOver, Cutting as SCutting}
-use Rattle.cert_text.specs.Places.{follows, cuts_left, count_of, wanted_of}
-use Rattle.cert_text.specs.Reading.{state_at, state_of, IsBare, IsCut, IsCounted, IsInTree, IsEnded, nodes_of, IsSound, IsSoundReader, Took, IsTextFault}
+use Rattle.cert_text.specs.Grammar.{State, opening_of, with_levels, with_cut, tree_of, step, may_begin}
+use Rattle.cert_text.specs.Grammar.State.{Between as SBetween, Inside as SInside, Loose as SLoose, Over as SOver, Cutting as SCutting}
+use Rattle.cert_text.specs.Places.{follows, cuts_left}
+use Rattle.cert_text.specs.Reading.{state_at, state_of, nodes_of, IsSound, IsSoundReader, Took, IsTextFault}
 use Rattle.cert_text.specs.Adding.{certificate_with, nodes_with}
 use Rattle.cert_text.specs.Text.{IsText, whole_lines, rest_of, takes, read_end, read_from, certificate_of}
 use Rattle.cert_text.proofs.TextLaws.{text_is, fault_is}

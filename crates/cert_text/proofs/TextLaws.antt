@@ -1,17 +1,17 @@
 -- Bytes are read exactly where they are a text; for others the faulty line is the first that no text begins with.
-use Rattle.std.proofs.Common.{ℕ, ◌≡◌, ◌+◌, ◌-◌, ◌<◌, ◌≤◌, arith, refl, sym, ◌∙◌, ap, zero, suc, Bool, true, false, cond, not, ◌&&◌, List, [], ◌∷◌, ◌++◌, append_assoc, append-nil, map, length, take, inl, inr, subst, add-one}
+use Rattle.std.proofs.Common.{ℕ, ◌≡◌, ◌+◌, ◌-◌, ◌<◌, ◌≤◌, arith, refl, sym, ◌∙◌, ap, zero, suc, Bool, true, false, cond, not, List, [], ◌∷◌, ◌++◌, append_assoc, append-nil, map, length, take, inl, inr, add-one}
 use Rattle.std.specs.Prelude.{◌==◌, Option, Some, None, Result, Ok, Err}
 use Rattle.std.specs.List.{list_all}
-use Rattle.std.proofs.lemmas.Bool.{and_parts, and_from, true≢false, cases_Bool}
+use Rattle.std.proofs.lemmas.Bool.{and_parts, and_from, cases_Bool}
 use Rattle.std.proofs.lemmas.Option.{same_Some, none-some}
 use Rattle.std.proofs.lemmas.List.Folds.{list_all-append}
 use Rattle.cert_text.specs.declared.lines.Certificate.{Certificate}
 use Rattle.cert_text.specs.declared.lines.CertLine.{CertLine}
 use Rattle.cert_text.specs.Numbers.{lacks, cut, onto, joined, opt_then}
 use Rattle.cert_text.specs.Spelling.{line_of, line_text, in_bounds}
-use Rattle.cert_text.specs.Grammar.{State, lines_of, step, and_then, runs, is_shaped, is_writable}
+use Rattle.cert_text.specs.Grammar.{State, lines_of, step, and_then, runs, is_shaped}
 use Rattle.cert_text.specs.Grammar.State.{Begun, Headed, Sized, Chosen, Valued, Cutting, Between, Inside, Loose, After, Over}
-use Rattle.cert_text.specs.Text.{fed, text_of, IsText, BeginsText, pieces_before, last_of, whole_lines, rest_of, IsFaultyLine, takes, read_over, read_end, read_from, certificate_of}
+use Rattle.cert_text.specs.Text.{fed, IsText, BeginsText, pieces_before, last_of, whole_lines, rest_of, IsFaultyLine, takes, read_over, read_end, read_from, certificate_of}
 use Rattle.cert_text.proofs.NumberLaws.{joined-cut, cut-before, opt_then_is}
 use Rattle.cert_text.proofs.SpellingLaws.{line_of-is, line_of-reads, line_lacks_feed}
 use Rattle.cert_text.proofs.GrammarLaws.{lines_are, lines_read, read_shaped, begins_lines, finish}

@@ -1,6 +1,5 @@
 -- What is appended piece by piece is the text.
-use Rattle.std.proofs.Common.{ℕ, ◌≡◌, ◌+◌, ◌<◌, arith, refl, sym, ◌∙◌, ap, zero, suc, List, [], ◌∷◌, ◌++◌, append_assoc, append-nil, map, length, get_or, drop, add-one}
-use Rattle.std.specs.Prelude.{Option, Some, None}
+use Rattle.std.proofs.Common.{ℕ, ◌≡◌, ◌+◌, ◌<◌, arith, sym, ◌∙◌, ap, zero, suc, List, [], ◌∷◌, ◌++◌, append_assoc, append-nil, map, length, get_or, drop}
 use Rattle.std.specs.Fmt.{decimal, signed_decimal}
 use Rattle.duality.specs.declared.leaf.Leaf.{Leaf}
 use Rattle.duality.specs.declared.leaf.Node.TheVariants.{Leaf as Closing}
@@ -9,8 +8,8 @@ use Rattle.cert_text.specs.declared.lines.Certificate.{Certificate}
 use Rattle.cert_text.specs.declared.lines.CertLine.{CertLine}
 use Rattle.cert_text.specs.declared.lines.CertLine.TheVariants as lines
 use Rattle.cert_text.specs.Numbers.{joined}
-use Rattle.cert_text.specs.Spelling.{line_text, leaf_fields, term_fields, counted}
-use Rattle.cert_text.specs.Grammar.{blocks, open_block, lines_of, tree_of}
+use Rattle.cert_text.specs.Spelling.{line_text, term_fields}
+use Rattle.cert_text.specs.Grammar.{blocks, open_block}
 use Rattle.cert_text.specs.Text.{fed, text_of}
 use Rattle.cert_text.specs.Writing.{blank_before, lined}
 use Rattle.cert_text.proofs.TextLaws.{map-append, fed-append}

@@ -1,5 +1,5 @@
 -- What a line adds to what was read, where the place behind it is known.
-use Rattle.std.specs.Prelude.{ℕ, Option, Some, None, List, [], ◌∷◌, ◌++◌}
+use Rattle.std.specs.Prelude.{Some, List, [], ◌∷◌, ◌++◌}
 use Rattle.duality.specs.declared.leaf.Node.{Node as SearchNode}
 use Rattle.cert_text.specs.declared.lines.Certificate.{Certificate}
 use Rattle.cert_text.specs.declared.lines.CertLine.{CertLine}

@@ -1,12 +1,11 @@
 -- What a reader keeps, as a state of the text; what read_cert answers.
-use Rattle.std.specs.Prelude.{ℕ, ◌≡◌, ◌<◌, ◌≤◌, Option, Some, None, Bool, true, false, List, [], ◌∷◌, ◌++◌, length}
+use Rattle.std.specs.Prelude.{ℕ, ◌≡◌, ◌<◌, ◌≤◌, Option, Some, None, Bool, true, false, List, [], length}
 use Rattle.input_core.specs.declared.faults.LineKind.TheVariants as kinds
 use Rattle.input_core.specs.declared.faults.TextFault.{TextFault}
 use Rattle.input_core.specs.declared.faults.TextFault.TheVariants.{Line, Memory}
 use Rattle.duality.specs.declared.leaf.Node.{Node as SearchNode}
 use Rattle.cert_text.specs.declared.lines.Tree.{Tree}
 use Rattle.cert_text.specs.declared.lines.Certificate.{Certificate}
-use Rattle.cert_text.specs.declared.lines.CertLine.{CertLine}
 use Rattle.cert_text.specs.declared.place.Place.{Place}
 use Rattle.cert_text.specs.declared.place.Place.TheVariants.{Head, Sizes, Choice, Values, Cuts, Cutting, Between, Inside, Loose, After, Over}
 use Rattle.cert_text.specs.declared.reader.Reader.{Reader}

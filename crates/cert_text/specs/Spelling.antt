@@ -1,5 +1,5 @@
 -- How a line is spelled, and its bounds.
-use Rattle.std.specs.Prelude.{ℕ, ℤ, pos, negsuc, ◌^◌, zero, suc, Bool, true, false, ◌&&◌, ◌==◌, not, nat_le, nat_lt, if◌then◌else◌, Option, Some, None, List, [], ◌∷◌, ◌++◌, length, map, codes, option_map}
+use Rattle.std.specs.Prelude.{ℕ, ℤ, pos, negsuc, ◌^◌, zero, Bool, true, false, ◌&&◌, ◌==◌, not, nat_le, nat_lt, if◌then◌else◌, Option, Some, None, List, [], ◌∷◌, length, map, codes, option_map}
 use Rattle.std.specs.List.{list_all}
 use Rattle.std.specs.Str.{bytes_eq}
 use Rattle.std.specs.Fmt.{decimal, signed_decimal}
@@ -7,7 +7,6 @@ use Rattle.duality.specs.declared.row.RowName.{RowName}
 use Rattle.duality.specs.declared.row.RowName.TheVariants.{Base, Cut as CutRow, Level as LevelRow}
 use Rattle.duality.specs.declared.row.Term.{Term}
 use Rattle.duality.specs.declared.leaf.Leaf.{Leaf}
-use Rattle.duality.specs.declared.leaf.Node.{Node as SearchNode}
 use Rattle.duality.specs.declared.leaf.Node.TheVariants.{Branch, Leaf as Closing, OpenEnd}
 use Rattle.duality.specs.Sums.{rises, is_small}
 use Rattle.cert_text.specs.declared.lines.CertLine.{CertLine}

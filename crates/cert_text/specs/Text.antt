@@ -1,7 +1,6 @@
 -- The bytes of a certificate, and the first faulty line of other bytes.
 use Rattle.std.specs.Prelude.{ℕ, ◌≡◌, ◌+◌, ◌<◌, ◌≤◌, true, Option, Some, None, Result, Ok, Err, List, [], ◌∷◌, ◌++◌, length, map, take}
 use Rattle.cert_text.specs.declared.lines.Certificate.{Certificate}
-use Rattle.cert_text.specs.declared.lines.CertLine.{CertLine}
 use Rattle.cert_text.specs.Numbers.{cut, opt_then}
 use Rattle.cert_text.specs.Spelling.{line_of, line_text}
 use Rattle.cert_text.specs.Grammar.{State, lines_of, step, is_writable}

@@ -1,7 +1,9 @@
-ghost use Rattle.std.specs.Prelude.{◌≡◌, ℕ, List, Some, Ok, Err, true};
+ghost use Rattle.std.specs.Prelude.{◌≡◌, ℕ, List, Some, Ok, Err, true, option_map};
 ghost use Rattle.cert_text.specs.declared.lines.Certificate.{Certificate};
 ghost use Rattle.cert_text.specs.declared.lines.CertLine.{CertLine};
 ghost use Rattle.cert_text.specs.Spelling.{line_of, line_text, in_bounds};
+ghost use Rattle.cert_text.specs.Grammar.{State, step};
+ghost use Rattle.cert_text.specs.Places.{follows, place_of};
 ghost use Rattle.cert_text.specs.Text.{IsText, IsFaultyLine, certificate_of};
 
 /// A line is read exactly where it is the spelling of a line inside its bounds, as that line.
@@ -18,4 +20,9 @@ pub fn text_laws()
     ensures spelled { (bytes : List ℕ) (c : Certificate) → certificate_of bytes ≡ Ok c → IsText bytes c }
     ensures faulty { (bytes : List ℕ) (n : ℕ) → certificate_of bytes ≡ Err n → IsFaultyLine bytes n }
     ensures one { (bytes : List ℕ) (c d : Certificate) → IsText bytes c → IsText bytes d → c ≡ d }
+{}
+
+/// The step of the text is that of its counts, so a reader that keeps counts alone stops at the same lines.
+pub fn place_laws()
+    ensures { (s : State) (l : CertLine) → option_map place_of (step s l) ≡ follows (place_of s) l }
 {}

@@ -3,7 +3,7 @@ ghost use Rattle.cert_text.specs.Numbers.{each_of};
 ghost use Rattle.cert_text.specs.Spelling.{small_number, value_of, values_of, six_of, row_of, row_named, term_of, terms_of, counted_terms, leaf_of};
 
 use crate::fields::Fields;
-use crate::numbers::{read_natural, read_small, read_value, read_whole};
+use crate::number::{read_natural, read_small, read_value, read_whole};
 use duality::{Leaf, RowName, Term};
 use std::alloc::{AllocError, Global};
 use values::Items;

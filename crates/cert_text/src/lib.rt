@@ -7,15 +7,18 @@ mod laws;
 mod leaf_line;
 mod line;
 mod lines;
-mod numbers;
+mod number;
 mod place;
 mod reader;
 mod writer;
 
 pub use duality::Node;
-pub use laws::{line_laws, text_laws};
+pub use laws::{line_laws, place_laws, text_laws};
 pub use line::read_line;
 pub use lines::{CertLine, Certificate, Tree};
 pub use place::{Place, step};
 pub use reader::{Reader, read_cert};
 pub use writer::write_cert;
+
+#[cfg(test)]
+mod tests;

@@ -7,7 +7,7 @@ use crate::bounds::in_bounds;
 use crate::fields::Fields;
 use crate::leaf_line::{read_leaf, read_values};
 use crate::lines::CertLine;
-use crate::numbers::read_small;
+use crate::number::read_small;
 use duality::Node;
 use std::alloc::{AllocError, Global};
 use values::Items;

@@ -1,12 +1,5 @@
-use Rattle.std.proofs.Common.{◌≡◌, ◌∙◌, ◌++◌, ◌+◌, ◌∷◌, [], ap, sym, arith, map, length}
-use Rattle.std.specs.Fmt.{decimal, signed_decimal}
-use Rattle.duality.specs.declared.leaf.Node.TheVariants as nodes
-use Rattle.cert_text.specs.declared.lines.CertLine.TheVariants as lines
-use Rattle.cert_text.specs.Numbers.{joined}
-use Rattle.cert_text.specs.Spelling.{line_text, term_fields, counted}
-use Rattle.cert_text.specs.Grammar.{blocks, open_block}
-use Rattle.cert_text.specs.Text.{fed}
-use Rattle.cert_text.specs.Writing.{blank_before, lined}
+use Rattle.std.proofs.Common.{map, length}
+use Rattle.std.specs.Fmt.{decimal}
 use Rattle.cert_text.proofs.WriteLaws.{field_line}
 use Rattle.cert_text.proofs.writer.write_counted.Goals as goal
 

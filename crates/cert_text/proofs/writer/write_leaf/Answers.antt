@@ -1,15 +1,10 @@
-use Rattle.std.proofs.Common.{rules, ◌≡◌, ◌∙◌, ◌++◌, ◌+◌, ◌∷◌, [], ap, sym, arith, map, length}
+use Rattle.std.proofs.Common.{rules, ◌∙◌, ◌++◌, ◌∷◌, ap}
 use Rattle.std.specs.Prelude.{FitsSigned}
 use Rattle.std.specs.Fmt.{decimal, signed_decimal}
 use Rattle.std.proofs.lemmas.Int.{to_z-of_z}
 use mir.Syntax.{w128}
-use Rattle.duality.specs.declared.leaf.Node.TheVariants as nodes
-use Rattle.cert_text.specs.declared.lines.CertLine.TheVariants as lines
-use Rattle.cert_text.specs.Numbers.{joined}
-use Rattle.cert_text.specs.Spelling.{line_text, term_fields, counted}
-use Rattle.cert_text.specs.Grammar.{blocks, open_block}
-use Rattle.cert_text.specs.Text.{fed}
-use Rattle.cert_text.specs.Writing.{blank_before, lined}
+use Rattle.cert_text.specs.Spelling.{term_fields}
+use Rattle.cert_text.specs.Writing.{blank_before}
 use Rattle.cert_text.proofs.WriteLaws.{leaf_line}
 use Rattle.cert_text.proofs.writer.write_leaf.Goals as goal
 

@@ -1,10 +1,7 @@
-use Rattle.std.proofs.Common.{◌≡◌, ◌++◌, ◌+◌, drop, map}
-use Rattle.std.specs.Fmt.{decimal, signed_decimal}
+use Rattle.std.proofs.Common.{◌≡◌, ◌++◌, drop, map}
 use Rattle.cert_text.specs.declared.lines.CertLine.TheVariants as lines
-use Rattle.cert_text.specs.Spelling.{line_text, term_fields}
-use Rattle.cert_text.specs.Grammar.{blocks}
+use Rattle.cert_text.specs.Spelling.{line_text}
 use Rattle.cert_text.specs.Text.{fed}
-use Rattle.cert_text.specs.Writing.{blank_before}
 use Rattle.cert_text.proofs.writer.write_nodes.Given as goal
 
 abbrev pub invariant-loop-node : goal.invariant-loop-node

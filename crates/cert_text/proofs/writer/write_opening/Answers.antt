@@ -1,12 +1,7 @@
-use Rattle.std.proofs.Common.{◌≡◌, ◌∙◌, ◌++◌, ◌+◌, ◌∷◌, [], ap, sym, arith, map, length}
-use Rattle.std.specs.Fmt.{decimal, signed_decimal}
-use Rattle.duality.specs.declared.leaf.Node.TheVariants as nodes
+use Rattle.std.proofs.Common.{◌∙◌, ◌++◌, ap, length}
 use Rattle.cert_text.specs.declared.lines.CertLine.TheVariants as lines
-use Rattle.cert_text.specs.Numbers.{joined}
-use Rattle.cert_text.specs.Spelling.{line_text, term_fields, counted}
-use Rattle.cert_text.specs.Grammar.{blocks, open_block}
-use Rattle.cert_text.specs.Text.{fed}
-use Rattle.cert_text.specs.Writing.{blank_before, lined}
+use Rattle.cert_text.specs.Spelling.{line_text}
+use Rattle.cert_text.specs.Writing.{lined}
 use Rattle.cert_text.proofs.WriteLaws.{opening_line}
 use Rattle.cert_text.proofs.writer.write_opening.Goals as goal
 

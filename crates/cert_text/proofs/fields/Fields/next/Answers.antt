@@ -1,4 +1,4 @@
-use Rattle.std.proofs.Common.{◌≡◌, ◌∙◌, ◌<◌, [], sym, ap, arith, cond, length}
+use Rattle.std.proofs.Common.{◌∙◌, ◌<◌, [], sym, ap, arith, cond, length}
 use Rattle.cert_text.specs.Numbers.{cut}
 use Rattle.cert_text.proofs.NumberLaws.{cut_all, cut_first}
 use Rattle.cert_text.proofs.fields.Fields.next.Goals as goal

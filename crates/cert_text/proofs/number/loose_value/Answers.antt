@@ -6,7 +6,7 @@ use Rattle.std.specs.Str.Parse.{digits_value}
 use Rattle.std.proofs.lemmas.List.{take_all}
 use Rattle.cert_text.specs.Numbers.{is_digit}
 use Rattle.cert_text.proofs.NumberLaws.{digit_fits, below_all}
-use Rattle.cert_text.proofs.numbers.loose_value.Goals as goal
+use Rattle.cert_text.proofs.number.loose_value.Goals as goal
 
 pub overflow_mul-number : goal.overflow_mul-number
 overflow_mul-number c = omega (arith, digit_fits c.loop-b.number 0 c.loop-b.b-index c.loop-b.invariant.small (omega arith) (omega arith))

@@ -2,7 +2,7 @@ use Rattle.std.proofs.Common.{◌≡◌, ◌<◌, ◌^◌, take, true}
 use Rattle.std.specs.List.{list_all}
 use Rattle.std.specs.Str.Parse.{digits_value}
 use Rattle.cert_text.specs.Numbers.{is_digit}
-use Rattle.cert_text.proofs.numbers.loose_value.Given as goal
+use Rattle.cert_text.proofs.number.loose_value.Given as goal
 
 abbrev pub invariant-loop-b : goal.invariant-loop-b
 invariant-loop-b l = record {
