@@ -1,5 +1,5 @@
 -- Small timed solutions, computed.
-use Rattle.std.specs.Prelude.{ℕ, ◌≡◌, List, [], ◌∷◌, Ok, Err, codes, refl}
+use Rattle.std.specs.Prelude.{ℕ, ◌≡◌, [], ◌∷◌, Ok, Err, codes, refl}
 use Rattle.input_core.specs.declared.faults.LineKind.TheVariants.{UnknownRoom, RepeatedMeeting, TooMany}
 use Rattle.ctt_reader.specs.declared.instance.Instance.{Instance}
 use Rattle.timed_solution.specs.Times.{times_of}
