@@ -17,20 +17,27 @@ fn changed(alloc: Global, changes: &[(u64, &[u8])], keep: u64) -> Result<Vec<u8>
         let Some(line) = lines.next() else {
             break;
         };
-        let line = replaced(changes, number + 1, line);
-        text.extend_from_slice(line)?;
+        push_changed(&mut text, changes, number + 1, line)?;
         text.push(b'\n')?;
     }
     Ok(text)
 }
 
-fn replaced<'a>(changes: &[(u64, &'a [u8])], number: u64, line: &'a [u8]) -> &'a [u8] {
+/// Adds the line, or the text that stands in its place.
+fn push_changed(
+    text: &mut Vec<u8>,
+    changes: &[(u64, &[u8])],
+    number: u64,
+    line: &[u8],
+) -> Result<(), AllocError> {
     for change in changes {
         if change.0 == number {
-            return change.1;
+            text.extend_from_slice(change.1)?;
+            return Ok(());
         }
     }
-    line
+    text.extend_from_slice(line)?;
+    Ok(())
 }
 
 #[test]
