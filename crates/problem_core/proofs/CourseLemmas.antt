@@ -1,15 +1,12 @@
 -- How the table of the courses' events is filled.
-use Rattle.std.proofs.Common.{take, ◌&&◌, ◌||◌, ℕ, ◌≡◌, ◌+◌, ◌*◌, ◌/◌, ◌<◌, ◌≤◌, inl, inr, zero, suc, Bool, true, false, refl, arith, ap, sym, ◌∙◌, cond, add-one, List, [], ◌∷◌, ◌++◌, length, get_or, set, get_or-set_same, get_or-set_other}
+use Rattle.std.proofs.Common.{ℕ, ◌≡◌, ◌+◌, ◌*◌, ◌/◌, ◌<◌, inl, inr, Bool, true, false, refl, arith, ap, sym, ◌∙◌, cond, List, [], ◌∷◌, ◌++◌, length, get_or, set, get_or-set_same, get_or-set_other}
 use Rattle.std.specs.Prelude.{nat_lt}
-use Rattle.std.specs.List.{list_any, AllByRecursion}
-use Rattle.std.proofs.lemmas.List.Folds.{list_any-append}
-use Rattle.numbers.specs.Below.{any_below}
-use Rattle.std.proofs.lemmas.List.{take_all, take-append-le, length-set, length_push, get_or_append_left, get_or_push, get_or-map}
-use Rattle.std.proofs.lemmas.Bool.{cases_eq, cases_lt, cases_Bool, cond-true, cond-false, lt-ltb, le-ltb, eq-eqb, ne_eqb}
+use Rattle.std.proofs.lemmas.List.{length-set, length_push, get_or_append_left, get_or_push, get_or-map}
+use Rattle.std.proofs.lemmas.Bool.{cases_eq, cases_lt, cond-true, cond-false, lt-ltb, le-ltb, eq-eqb, ne_eqb}
 use Rattle.std.proofs.lemmas.Nat.{mul-add-lt, div-mul-add}
 use Rattle.problem_core.specs.Facts.{Facts, course_of, no_event}
 use Rattle.problem_core.specs.OfParts.{facts_of, event_of}
-use Rattle.problem_core.specs.Passing.{passing-hit, passing-miss, passing-few}
+use Rattle.problem_core.specs.Passing.{passing-hit, passing-miss}
 use Rattle.problem_core.specs.Courses.{passing, is_of_course, place_of, IsCourseTable}
 use Rattle.problem_core.specs.declared.parts.Parts.{Parts}
 use Rattle.problem_core.specs.declared.parts.EventPart.{EventPart}

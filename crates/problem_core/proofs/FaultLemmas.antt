@@ -2,11 +2,12 @@
 use Rattle.std.proofs.Common.{ℕ, ◌≡◌, ◌≢◌, ◌+◌, ◌-◌, ◌<◌, ◌≤◌, inl, inr, zero, suc, Bool, true, false, not, refl, arith, ap, sym, ◌∙◌, subst, cond, List, [], ◌∷◌, length}
 use Rattle.std.specs.Prelude.{◌==◌, nat_le, Option, Some, None, ◌↔◌}
 use Rattle.std.specs.List.{list_all}
-use Rattle.std.proofs.lemmas.Bool.{cases_eq, cases_Bool, cond-true, cond-false, and_cases, and_left, and_right, eq-eqb, ne_eqb, leb-true, le-leb, and_parts, and_from, true≢false}
-use Rattle.numbers.specs.Below.{any_below, first_from, first_from_finds, any_below_at}
+use Rattle.std.proofs.lemmas.Bool.{cases_eq, cases_Bool, cond-true, cond-false, and_cases, and_left, and_right, eq-eqb, ne_eqb, leb-true, le-leb, and_parts, and_from, not-true, true≢false}
+use Rattle.numbers.specs.Below.{any_below, first_from, first_from_finds, any_below_at, none_below}
 use Rattle.problem_core.specs.Below.{none_passes, none_found, any_below_none}
 use Rattle.problem_core.specs.Facts.{Facts, suits, share_slot}
 use Rattle.problem_core.specs.Choice.{entry, holds, IsChoice, IsLegal}
+use Rattle.problem_core.specs.FirstChoice.{can_take}
 use Rattle.problem_core.specs.Faults.{first_from_on, first_fault, fault_of, clash_of, unless_found}
 use Rattle.problem_core.specs.declared.choice.RoomFault.{RoomFault}
 use Rattle.problem_core.specs.declared.choice.RoomFault.TheVariants.{Unsuitable, Clash}
@@ -81,13 +82,24 @@ no_holder p a e legal l some = none_found (holds p a e (entry a e)) 0 e (λ k _ 
   | inr differ ↦ and_left (entry a k == entry a e) (share_slot p k e) (ne_eqb (entry a k) (entry a e) differ)
 ])
 
+nothing_wrong : (p : Facts) (a : List ℕ) (e : ℕ) → entry a e ≢ 0 → suits p e (entry a e - 1) ≡ true → first_from (holds p a e (entry a e)) 0 e ≡ 0 → fault_of p a e ≡ None
+nothing_wrong p a e some suit free =
+    cond-false (entry a e == 0) None _ (ne_eqb (entry a e) 0 some)
+    ∙ cond-true (suits p e (entry a e - 1)) _ (Some (Unsuitable e)) suit
+    ∙ ap (λ found. clash_of found e) free
+
+-- nothing is wrong with an event that can take its room after the earlier events took theirs
+pub no_fault_taken : (p : Facts) (a : List ℕ) (e : ℕ) → entry a e ≢ 0 → can_take p a e (entry a e - 1) ≡ true → fault_of p a e ≡ None
+no_fault_taken p a e some h =
+    let parts = and_parts (suits p e (entry a e - 1)) (not (any_below (holds p a e (entry a e - 1 + 1)) e)) h in
+    let same : entry a e ≡ entry a e - 1 + 1 = omega arith in
+    let free : any_below (holds p a e (entry a e)) e ≡ false = ap (λ x. any_below (holds p a e x) e) same ∙ not-true (any_below (holds p a e (entry a e - 1 + 1)) e) parts.1 in
+    nothing_wrong p a e some parts.0 (none_found (holds p a e (entry a e)) 0 e (λ k _ l. none_below (holds p a e (entry a e)) k e free (omega arith)))
+
 no_fault : (p : Facts) (a : List ℕ) (e : ℕ) → IsLegal p a → e < length a → fault_of p a e ≡ None
 no_fault p a e legal l = elim (cases_eq (entry a e) 0) [
   | inl none ↦ cond-true (entry a e == 0) None _ (eq-eqb (entry a e) 0 none)
-  | inr some ↦
-      cond-false (entry a e == 0) None _ (ne_eqb (entry a e) 0 some)
-      ∙ cond-true (suits p e (entry a e - 1)) _ (Some (Unsuitable e)) (legal.suitable e l some)
-      ∙ ap (λ found. clash_of found e) (no_holder p a e legal l some)
+  | inr some ↦ nothing_wrong p a e some (legal.suitable e l some) (no_holder p a e legal l some)
 ]
 
 pub none_is_legal : (p : Facts) (a : List ℕ) → IsChoice p a → (first_fault p a ≡ None) ↔ IsLegal p a

@@ -4,7 +4,10 @@ use Rattle.std.specs.Prelude.{◌==◌, nat_le, nat_lt}
 use Rattle.std.specs.List.{list_any}
 use Rattle.std.proofs.lemmas.Bool.{cases_eq, ne_eqb}
 use Rattle.std.proofs.lemmas.Bool.Decides.{nat_tests}
-use Rattle.std.proofs.lemmas.List.{take_all, take-append-le, get_or_append_left, get_or_push}
+use Rattle.std.proofs.lemmas.List.{take_all, take-append-le, get_or_append_left, get_or_push, get_or-take, length-take-le}
+use Rattle.std.proofs.lemmas.Nat.{mul-add-lt}
+use Rattle.std.proofs.Math.Nat.{mul_comm}
+use Rattle.std.proofs.Math.Seq.{take-suc}
 use Rattle.numbers.specs.Below.{any_below, first_from}
 use Rattle.problem_core.specs.Facts.{Facts, takes_slot, event_at, run_of, suits}
 use Rattle.problem_core.specs.Choice.{entry, holds}
@@ -140,3 +143,24 @@ more_lowest p a b n x whole is here h e l = rw is (elim (cases_eq e n) [
       ∙ h e (omega arith)
       ∙ ap (λ (xs : List ℕ). first_from (can_take p xs e) 0 (length p.capacity)) (sym (take-append-le e a (x ∷ []) (omega arith)))
 ])
+
+-- before the first event no room is taken
+pub none_yet : (p : Facts) (a : List ℕ) (taken : List Bool) → length taken ≡ length p.capacity * p.slots → ((k : ℕ) (d : Bool) → k < length taken → get_or taken k d ≡ false) → IsTaken p a 0 taken
+none_yet p a taken whole unmarked = record {
+  whole = whole;
+  cell = λ r t d l m. unmarked (r * p.slots + t) d (omega (arith, whole, mul-add-lt r p.slots t (length p.capacity) l m, mul_comm (length p.capacity) p.slots));
+}
+
+-- the entries of the events so far alone decide what is taken
+taken_by_front : (p : Facts) (a b : List ℕ) (n : ℕ) (taken : List Bool) → ((f : ℕ) → f < n → entry a f ≡ entry b f) → IsTaken p a n taken → IsTaken p b n taken
+taken_by_front p a b n taken same is =
+    IsGrid-same taken (length p.capacity) p.slots (λ r t. any_below (has_at p a (r + 1) t) n) (λ r t. any_below (has_at p b (r + 1) t) n) is
+    (λ r t _ _. any_below-same (has_at p a (r + 1) t) (has_at p b (r + 1) t) n (λ f l. ap (λ x. (x == r + 1) && takes_slot p f t) (same f l)))
+
+-- an event more, of a list that has the entries of all events
+pub taken_next : (p : Facts) (a : List ℕ) (n : ℕ) (old new : List Bool) → n < length a
+    → ((b c : List ℕ) → IsTaken p b n old → c ≡ b ++ entry a n ∷ [] → length b ≡ n → IsTaken p c (n + 1) new)
+    → IsTaken p a n old → IsTaken p a (n + 1) new
+taken_next p a n old new l grows is =
+    taken_by_front p (take (n + 1) a) a (n + 1) new (λ f m. get_or-take (n + 1) a f 0 m)
+    (grows (take n a) (take (n + 1) a) (taken_by_front p a (take n a) n old (λ f m. sym (get_or-take n a f 0 m)) is) (ap (λ m. take m a) (add-one n) ∙ take-suc a n 0 l) (length-take-le n a (omega arith)))

@@ -1,12 +1,12 @@
 -- What every problem keeps makes it a problem.
-use Rattle.std.proofs.Common.{ℕ, ◌≡◌, ◌+◌, ◌<◌, ◌≤◌, inl, inr, Bool, false, ◌&&◌, refl, arith, ap, ap₂, sym, ◌∙◌, length, get_or}
-use Rattle.std.specs.Prelude.{nat_lt, ◌==◌, List}
+use Rattle.std.proofs.Common.{ℕ, ◌≡◌, ◌+◌, ◌<◌, ◌≤◌, inl, inr, false, ◌&&◌, arith, ap, ap₂, sym, ◌∙◌, length, get_or}
+use Rattle.std.specs.Prelude.{nat_lt, ◌==◌}
 use Rattle.std.specs.List.{list_any}
 use Rattle.std.proofs.lemmas.List.{get_or-map, length-map}
 use Rattle.std.proofs.lemmas.Bool.Decides.{nat_tests}
-use Rattle.problem_core.specs.Facts.{Facts, Event, run_of, event_at, no_event, course_of, share_slot}
+use Rattle.problem_core.specs.Facts.{Event, run_of, event_at, no_event, course_of, share_slot}
 use Rattle.problem_core.specs.OfParts.{facts_of, event_of}
-use Rattle.problem_core.specs.Kept.{AreKept, AreFit, EventFits, AreApart}
+use Rattle.problem_core.specs.Kept.{AreKept, AreFit, AreApart}
 use Rattle.problem_core.specs.Valid.{IsProblem}
 use Rattle.problem_core.specs.declared.parts.Parts.{Parts}
 use Rattle.problem_core.specs.declared.parts.EventPart.{EventPart}

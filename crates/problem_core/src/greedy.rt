@@ -9,7 +9,7 @@ ghost use Rattle.problem_core.specs.Taken.{IsTaken};
 ghost use Rattle.problem_core.specs.Tables.{IsGrid};
 
 use crate::choice::{Choice, Memory};
-use crate::grid::{cell, put};
+use crate::grid::cell;
 use crate::problem::Problem;
 use std::alloc::Global;
 use values::Items;
@@ -22,10 +22,11 @@ pub fn first_choice(alloc: Global, p: &Problem) -> Result<Choice, Memory>
 {
     let mut entries = Items::new(alloc);
     let cells = p.room_count() as usize * p.slot_count() as usize;
-    let mut taken = vec![in alloc; false; cells]?;
+    let mut table = vec![in alloc; false; cells]?;
+    let taken = table.as_mut_slice();
     for event in 0..p.event_count() {
-        let entry = lowest_room(p, &taken, event);
-        take_room(p, &mut taken, event, entry);
+        let entry = lowest_room(p, taken, event);
+        take_room(p, taken, event, entry);
         entries.push(entry)?;
     }
     Ok(Choice { entries })
@@ -46,7 +47,8 @@ fn lowest_room(p: &Problem, taken: &[bool], event: u32) -> u32
     0
 }
 
-fn can_take(p: &Problem, taken: &[bool], event: u32, room: u32) -> bool
+/// Whether the room suits the event and isn't taken in its slots.
+pub fn can_take(p: &Problem, taken: &[bool], event: u32, room: u32) -> bool
     requires known { event < length p.now.events }
     requires known_room { room < length p.now.capacity }
     requires whole { length taken.now ≡ length p.now.capacity * p.now.slots }
@@ -72,12 +74,12 @@ fn is_taken(taken: &[bool], columns: usize, row: usize, from: usize, count: usiz
 }
 
 /// Marks the room of the entry as taken in the event's slots.
-fn take_room(p: &Problem, taken: &mut Vec<bool>, event: u32, entry: u32)
+pub fn take_room(p: &Problem, taken: &mut [bool], event: u32, entry: u32)
     requires known { event < length p.now.events }
     requires known_room { entry ≤ length p.now.capacity }
-    requires whole { length taken.old.items ≡ length p.now.capacity * p.now.slots }
-    ensures whole { length taken.new.items ≡ length taken.old.items }
-    ensures taken { (a b : List ℕ) → IsTaken p.now a event taken.old.items → b ≡ a ++ entry ∷ [] → length a ≡ event → IsTaken p.now b (event + 1) taken.new.items }
+    requires whole { length taken.old ≡ length p.now.capacity * p.now.slots }
+    ensures whole { length taken.new ≡ length taken.old }
+    ensures taken { (a b : List ℕ) → IsTaken p.now a event taken.old → b ≡ a ++ entry ∷ [] → length a ≡ event → IsTaken p.now b (event + 1) taken.new }
 {
     if entry != 0 {
         let (slot, count) = p.takes(event);
@@ -93,15 +95,15 @@ fn take_room(p: &Problem, taken: &mut Vec<bool>, event: u32, entry: u32)
 }
 
 /// Sets the row's cells of `count` columns from `from` on.
-fn mark(taken: &mut Vec<bool>, columns: usize, row: usize, from: usize, count: usize)
-    requires there { row * columns + columns ≤ length taken.old.items }
+fn mark(taken: &mut [bool], columns: usize, row: usize, from: usize, count: usize)
+    requires there { row * columns + columns ≤ length taken.old }
     requires within { from + count ≤ columns }
-    ensures whole { length taken.new.items ≡ length taken.old.items }
-    ensures grid { (rows : ℕ) (f : ℕ → ℕ → Bool) → row < rows → IsGrid taken.old.items rows columns f
-        → IsGrid taken.new.items rows columns (λ r t. ((row == r) && (nat_le from t && nat_lt t (from + count))) || f r t) }
+    ensures whole { length taken.new ≡ length taken.old }
+    ensures grid { (rows : ℕ) (f : ℕ → ℕ → Bool) → row < rows → IsGrid taken.old rows columns f
+        → IsGrid taken.new rows columns (λ r t. ((row == r) && (nat_le from t && nat_lt t (from + count))) || f r t) }
 {
     for t in from..from + count {
-        put(taken, columns, row, t, true);
+        taken[row * columns + t] = true;
     }
 }
 

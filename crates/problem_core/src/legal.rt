@@ -1,11 +1,13 @@
-ghost use Rattle.std.specs.Prelude.{◌≡◌, ◌≢◌, ◌<◌, ◌≤◌, ◌+◌, ◌↔◌, ◌==◌, IsTrue, length, ℕ, nat_le, ◌&&◌};
+ghost use Rattle.std.specs.Prelude.{◌≡◌, ◌≢◌, ◌<◌, ◌≤◌, ◌+◌, ◌*◌, ◌↔◌, ◌==◌, IsTrue, length, ℕ, Bool, false, nat_le, slice_index_or, ◌&&◌};
 ghost use Rattle.std.specs.List.{list_all};
 ghost use Rattle.problem_core.specs.Choice.{IsLegal, IsChoice, entry, holds};
 ghost use Rattle.problem_core.specs.Facts.{share_slot};
+ghost use Rattle.problem_core.specs.Taken.{IsTaken};
 ghost use Rattle.problem_core.specs.Faults.{first_fault, fault_of, clash_of};
 ghost use Rattle.numbers.specs.Below.{any_below, first_from};
 
 use crate::choice::{Choice, RoomFault};
+use crate::greedy::{can_take, take_room};
 use crate::problem::Problem;
 
 impl Problem {
@@ -30,20 +32,42 @@ impl Problem {
     /// What keeps the choice from being legal, at the least event with a room that doesn't suit it
     /// or that an earlier event with a slot in common has too: `Unsuitable` where the room doesn't
     /// suit, else `Clash` with the least such earlier event. `None` comes exactly where the choice is legal.
+    /// It takes no memory; its time grows with the events and the slots that they take.
     pub fn first_fault(&self, a: &Choice) -> Option<RoomFault>
         requires { IsChoice self.now a.now.entries }
         ensures fault { result ≡ first_fault self.now a.now.entries }
         ensures none { (result ≡ None) ↔ IsLegal self.now a.now.entries }
     {
-        let entries = a.entries.as_slice();
-        for event in 0..self.event_count() {
-            match fault_of(self, entries, event) {
-                Some(fault) => return Some(fault),
-                None => {}
-            }
-        }
-        None
+        let mut table = unmarked();
+        let cells = self.room_count() as usize * self.slot_count() as usize;
+        fault_by_table(self, a.entries.as_slice(), &mut table[..cells])
     }
+}
+
+/// As many cells as the most rooms (200) and the most slots (672) have.
+const CELLS: usize = 134_400;
+
+/// A table of which no cell is marked. It stands on the stack.
+fn unmarked() -> [bool; CELLS]
+    ensures { (k : ℕ) (d : Bool) → k < CELLS → slice_index_or result k d ≡ false }
+{
+    [false; CELLS]
+}
+
+/// The first fault of the choice. The table marks, by room and slot, which rooms the events so far have.
+fn fault_by_table(p: &Problem, entries: &[u32], taken: &mut [bool]) -> Option<RoomFault>
+    requires choice { IsChoice p.now entries.now }
+    requires whole { length taken.old ≡ length p.now.capacity * p.now.slots }
+    requires unmarked { (k : ℕ) (d : Bool) → k < length taken.old → slice_index_or taken.old k d ≡ false }
+    ensures { result ≡ first_fault p.now entries.now }
+{
+    for event in 0..p.event_count() {
+        match fault_of(p, entries, taken, event) {
+            Some(fault) => return Some(fault),
+            None => take_room(p, taken, event, entries[event as usize]),
+        }
+    }
+    None
 }
 
 fn are_known(entries: &[u32], rooms: u32) -> bool
@@ -52,13 +76,17 @@ fn are_known(entries: &[u32], rooms: u32) -> bool
     entries.iter().all(|x| *x <= rooms)
 }
 
-fn fault_of(p: &Problem, entries: &[u32], event: u32) -> Option<RoomFault>
+/// What is wrong with the event. Only where the table says that something is are the earlier events read.
+fn fault_of(p: &Problem, entries: &[u32], taken: &[bool], event: u32) -> Option<RoomFault>
     requires choice { IsChoice p.now entries.now }
     requires known { event < length p.now.events }
+    requires taken { IsTaken p.now entries.now event taken.now }
     ensures { result ≡ fault_of p.now entries.now event }
 {
     let entry = entries[event as usize];
     if entry == 0 {
+        None
+    } else if can_take(p, taken, event, entry - 1) {
         None
     } else if p.suits(event, entry - 1) {
         clash_of(first_holder(p, entries, event, entry), event)

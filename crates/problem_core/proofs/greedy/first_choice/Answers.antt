@@ -1,7 +1,6 @@
-use Rattle.std.proofs.Common.{ℕ, ◌+◌, ◌∙◌, sym, ap, subst, arith, length}
+use Rattle.std.proofs.Common.{ℕ, ◌+◌, ◌∙◌, ap, arith, length}
 use Rattle.std.proofs.lemmas.List.{length_push}
 use Rattle.problem_core.proofs.FirstChoiceLemmas.{IsLegal-first_choice}
-use Rattle.problem_core.specs.Taken.{IsTaken}
 use Rattle.problem_core.proofs.TakenLemmas.{more_lowest}
 use Rattle.problem_core.proofs.greedy.first_choice.Goals as goal
 
@@ -12,7 +11,7 @@ loop-event-preserved c =
     record {
       one_each = ap (length {A = ℕ}) c.in_ok-push.ensures.ok ∙ length_push old c.lowest_room-entry.result ∙ ap (λ n. n + 1) inv.one_each;
       lowest = more_lowest c.args.p.now old c.push.new.self c.loop-event.event c.lowest_room-entry.result inv.one_each c.in_ok-push.ensures.ok
-          (c.lowest_room-entry.ensures.lowest old (subst (IsTaken c.args.p.now old c.loop-event.event) (sym c.deref.ensures.value) inv.taken)) inv.lowest;
+          (c.lowest_room-entry.ensures.lowest old inv.taken) inv.lowest;
       whole = c.take_room.ensures.whole ∙ inv.whole;
       taken = c.take_room.ensures.taken old c.push.new.self inv.taken c.in_ok-push.ensures.ok inv.one_each;
     }

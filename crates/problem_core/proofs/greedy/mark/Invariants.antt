@@ -5,7 +5,7 @@ use Rattle.problem_core.proofs.greedy.mark.Given as goal
 
 abbrev pub invariant-loop-t : goal.invariant-loop-t
 invariant-loop-t l = record {
-  whole : length l.taken.items ≡ length l.fn.taken.items;
-  grid : (rows : ℕ) (f : ℕ → ℕ → Bool) → l.row < rows → IsGrid l.fn.taken.items rows l.columns f
-      → IsGrid l.taken.items rows l.columns (λ r t. ((l.row == r) && (nat_le l.from t && nat_lt t l.t)) || f r t);
+  whole : length l.taken ≡ length l.fn.taken;
+  grid : (rows : ℕ) (f : ℕ → ℕ → Bool) → l.row < rows → IsGrid l.fn.taken rows l.columns f
+      → IsGrid l.taken rows l.columns (λ r t. ((l.row == r) && (nat_le l.from t && nat_lt t l.t)) || f r t);
 }
