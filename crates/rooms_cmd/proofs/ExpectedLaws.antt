@@ -1,20 +1,19 @@
 -- An answer that is explained, in a run in which no call fails, is the expected one.
-use Rattle.std.proofs.Common.{ℕ, ◌≡◌, ◌⊎◌, inl, inr, ◌<◌, ◌≤◌, ◌+◌, refl, sym, ◌∙◌, ap, subst, arith, zero, suc, List, [], ◌∷◌, ◌++◌, length, take, Bool, true, false, get_or}
-use Rattle.std.specs.Prelude.{Option, Some, None, Result, Ok, Err, IsTrue, nat_lt, ◌==◌}
+use Rattle.std.proofs.Common.{ℕ, ◌≡◌, ◌⊎◌, inl, inr, ◌≤◌, refl, sym, ◌∙◌, ap, subst, arith, zero, suc, List, [], ◌∷◌, ◌++◌, length, take, Bool}
+use Rattle.std.specs.Prelude.{Option, Some, None, IsTrue, ◌==◌}
 use Rattle.std.proofs.lemmas.Bool.{le-ltb, lt-ltb, ne_eqb, eq-eqb, cases_Bool}
 use Rattle.std.proofs.lemmas.List.{take_all}
 use Rattle.std.proofs.Math.Seq.{take-suc}
 use Rattle.numbers.specs.Below.{first_from}
 use Rattle.input_core.specs.Causes.{Rose}
 use Rattle.input_core.specs.Reading.{IsWhole}
-use Rattle.input_core.specs.declared.faults.LineFault.{LineFault}
 use Rattle.problem_core.specs.Facts.{Facts}
 use Rattle.problem_core.specs.Limits.{limit_of}
 use Rattle.problem_core.specs.FirstChoice.{IsFirstChoice, can_take}
 use Rattle.ctt_reader.specs.declared.instance.Instance.{Instance}
 use Rattle.timed_solution.specs.declared.times.Times.{Times}
 use Rattle.room_model.specs.ProblemOf.{problem_of}
-use Rattle.rooms_cmd.specs.Words.{Command, command}
+use Rattle.rooms_cmd.specs.Words.{command}
 use Rattle.rooms_cmd.specs.Words.Command.{Solve}
 use Rattle.rooms_cmd.specs.Texts.{read_fault_text, too_long_text, unplaced}
 use Rattle.rooms_cmd.specs.Run.{limit, Held, GivesInstance, GivesTimes, IsUnread, IsLong, IsRefused, IsFaultyInstance, IsFaultyTimes, IsPlaced, SolveExplains, Explains, Prints, Grew, RunEnds, IsSolve}

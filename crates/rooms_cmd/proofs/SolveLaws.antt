@@ -1,9 +1,9 @@
 -- From the answers of the steps to the answer of the command.
-use Rattle.std.proofs.Common.{ℕ, ◌≡◌, ◌≢◌, ◌⊎◌, inl, inr, ◌<◌, ◌≤◌, ◌+◌, ◌^◌, min, refl, sym, ◌∙◌, ap, ap₂, ◌++◌, subst, arith, List, [], ◌∷◌, length, Bool, true, false, cond, zero, suc, get_or}
-use Rattle.std.specs.Prelude.{Option, Some, None, IsTrue, ◌==◌, ◌-◌, map, codes, pos}
+use Rattle.std.proofs.Common.{ℕ, ◌≡◌, ◌≢◌, inl, inr, ◌<◌, ◌≤◌, sym, ◌∙◌, ap, ap₂, ◌++◌, subst, arith, List, [], ◌∷◌, length, Bool, true, cond, zero, suc, get_or}
+use Rattle.std.specs.Prelude.{Option, None, ◌==◌, ◌-◌, map, codes}
 use Rattle.std.specs.Fmt.{signed_decimal}
-use Rattle.std.specs.List.{count_by, All, list_all}
-use Rattle.std.proofs.lemmas.Bool.{ne_eqb, and_parts}
+use Rattle.std.specs.List.{list_all}
+use Rattle.std.proofs.lemmas.Bool.{and_parts}
 use Rattle.std.proofs.lemmas.List.{length-map}
 use Rattle.std.proofs.lemmas.Grind.{get_or_default_zero}
 use Rattle.problem_core.specs.OfParts.{event_of}
@@ -12,8 +12,8 @@ use Rattle.std.proofs.lemmas.List.Sums.{get_or-le-sum_by}
 use Rattle.input_core.specs.Causes.{Rose}
 use Rattle.problem_core.specs.Limits.{limit_of}
 use Rattle.problem_core.specs.Choice.{IsLegal, entry}
-use Rattle.problem_core.specs.Facts.{Facts, event_at, run_of}
-use Rattle.problem_core.specs.Measures.{measure, gained}
+use Rattle.problem_core.specs.Facts.{Facts}
+use Rattle.problem_core.specs.Measures.{measure}
 use Rattle.ctt_reader.specs.declared.instance.Instance.{Instance}
 use Rattle.timed_solution.specs.declared.times.Times.{Times}
 use Rattle.timed_solution.specs.declared.times.Meeting.{Meeting}
@@ -111,15 +111,6 @@ pub placed_is : (i : Instance) (t : Times) (a entries : List ℕ) (meetings : Li
 placed_is i t a entries meetings p text e f g h =
     e ∙ ap₂ (λ (q : Facts) (es : List ℕ). codes "Optimal\nevent hours " ++ signed_decimal (measure q 1 es) ++ codes "\n" ++ meeting_lines i meetings es) f h
     ∙ ap (λ (ms : List Meeting). codes "Optimal\nevent hours " ++ signed_decimal (measure (problem_of i t) 1 a) ++ codes "\n" ++ meeting_lines i ms a) g
-
-length-run : (s n : ℕ) → length (run_of s n) ≡ n
-length-run s zero = refl
-length-run s (suc n) = omega (arith, length-run (s + 1) n)
-
--- the hours of an event with a room
-pub gained_hours : (p : Facts) (a : List ℕ) (e first n x : ℕ) → entry a e ≡ x → x ≢ 0 → (event_at p e).takes ≡ run_of first n → pos n ≡ gained p 1 a e
-gained_hours p a e first n x same some takes =
-    rw (same, ne_eqb x 0 some) (ap pos (sym (length-run first n) ∙ ap length (sym takes)))
 
 at_place : {X : Type 0} (p : X → Bool) (xs : List X) (k : ℕ) (d : X) → list_all p xs ≡ true → k < length xs → p (get_or xs k d) ≡ true
 at_place p [] k d all l = absurd (omega arith)

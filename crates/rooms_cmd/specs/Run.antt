@@ -1,5 +1,5 @@
 -- What a run answers, and why.
-use Rattle.std.specs.Prelude.{ℕ, ◌≡◌, ◌≢◌, ◌⊎◌, ◌<◌, ◌≤◌, ◌+◌, List, [], ◌∷◌, ◌++◌, length, take, Bool, IsTrue, Option, Some, None, IsSomeAnd, IfSome, Result, Ok, Err}
+use Rattle.std.specs.Prelude.{ℕ, ◌≡◌, ◌⊎◌, ◌<◌, ◌≤◌, List, [], ◌++◌, length, take, Bool, IsTrue, Option, Some, None, IsSomeAnd, IfSome, Ok, Err}
 use Rattle.input_core.specs.Causes.{Rose}
 use Rattle.input_core.specs.Reading.{IsWhole}
 use Rattle.input_core.specs.declared.faults.LineFault.{LineFault}
@@ -14,7 +14,7 @@ use Rattle.ctt_reader.specs.Grammar.{ctt_of}
 use Rattle.timed_solution.specs.declared.times.Times.{Times}
 use Rattle.timed_solution.specs.Times.{times_of}
 use Rattle.room_model.specs.ProblemOf.{problem_of}
-use Rattle.rooms_cmd.specs.Words.{Command, command}
+use Rattle.rooms_cmd.specs.Words.{command}
 use Rattle.rooms_cmd.specs.Words.Command.{Solve}
 use Rattle.rooms_cmd.specs.Texts.{usage_text, read_fault_text, too_long_text, bad_line_text, over_limit_text, unplaced, unplaced_text, placed_text}
 use Rattle.rooms_cmd.specs.declared.status.Status.{Status}

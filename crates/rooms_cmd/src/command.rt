@@ -29,7 +29,7 @@ pub fn run<S: Shelf, O: Sink>(alloc: Global, words: &[String], shelf: &mut S, ou
     respond(alloc, words, shelf, out)
 }
 
-/// Finds the answer and writes it.
+/// Finds the answer and writes it. Its one clause goes by the status; the clauses of `run` follow from it.
 fn respond<S: Shelf, O: Sink>(alloc: Global, words: &[String], shelf: &mut S, out: &mut O) -> Status
     ensures ends { RunEnds (S.tells shelf.old) (S.held shelf.old) (words_of words.now) (S.piece_faults shelf.old) (S.piece_faults shelf.new) (O.faults out.old) (O.faults out.new) (O.written out.old) (O.written out.new) result }
     ensures only { OnlyReads S.tells S.held S.piece_faults S.put_faults shelf.old shelf.new }

@@ -75,6 +75,6 @@ fn place(
     first_choice_laws();
     Ok(Answer {
         status: Status::Done,
-        text: placed(alloc, instance, problem, times.meetings.as_slice(), entries)?,
+        text: placed(alloc, instance, problem, times.meetings.as_slice(), &choice)?,
     })
 }

@@ -1,13 +1,14 @@
 ghost use Rattle.std.specs.Prelude.{◌≡◌, ◌≢◌, ◌++◌, ◌<◌, ◌≤◌, ◌-◌, ℕ, List, pos, codes, decimal, length, slice_index, IfOk, OnOk};
 ghost use Rattle.std.specs.List.{list_all};
 ghost use Rattle.std.specs.Fmt.{signed_decimal};
-ghost use Rattle.problem_core.specs.Measures.{measure, gained};
+ghost use Rattle.problem_core.specs.Choice.{IsLegal};
+ghost use Rattle.problem_core.specs.Measures.{measure};
 ghost use Rattle.rooms_cmd.specs.Texts.{AreNamed, unplaced, usage_text, read_fault_text, too_long_text, bad_line_text, over_limit_text, limit_name, unplaced_text, meeting_line, meeting_lines, placed_text};
 
 use ctt_reader::Instance;
 use input_core::{LineFault, Memory, kind_text};
 use itoa::Buffer;
-use problem_core::{Limit, LimitKind, Problem};
+use problem_core::{Choice, Limit, LimitKind, Problem};
 use room_model::{course_name, room_name};
 use std::alloc::{AllocError, Global};
 use timed_solution::Meeting;
@@ -105,14 +106,15 @@ pub fn placed(
     instance: &Instance,
     problem: &Problem,
     meetings: &[Meeting],
-    entries: &[u32],
+    choice: &Choice,
 ) -> Result<Vec<u8>, Memory>
-    requires known { AreNamed instance.now meetings.now entries.now }
-    requires events { length entries.now ≡ length problem.now.events }
-    ensures { IfOk result (λ v. v.items ≡ codes "Optimal\nevent hours " ++ signed_decimal (measure problem.now 1 entries.now) ++ codes "\n" ++ meeting_lines instance.now meetings.now entries.now) }
+    requires known { AreNamed instance.now meetings.now choice.now.entries }
+    requires legal { IsLegal problem.now choice.now.entries }
+    ensures { IfOk result (λ v. v.items ≡ codes "Optimal\nevent hours " ++ signed_decimal (measure problem.now 1 choice.now.entries) ++ codes "\n" ++ meeting_lines instance.now meetings.now choice.now.entries) }
 {
     let mut buffer = Buffer::new();
-    let hours = event_hours(problem, entries);
+    let entries = choice.entries.as_slice();
+    let hours = problem.values(choice)[0];
     let mut text = Vec::from_slice(alloc, b"Optimal\nevent hours ")?;
     text.extend_from_slice(buffer.format(hours).as_bytes())?;
     text.extend_from_slice(b"\n")?;
@@ -143,29 +145,4 @@ fn push_meeting(
     text.extend_from_slice(buffer.format(meeting.period).as_bytes())?;
     text.extend_from_slice(b"\n")?;
     Ok(())
-}
-
-/// The event hours of a choice.
-fn event_hours(problem: &Problem, entries: &[u32]) -> u32
-    requires { length entries.now ≡ length problem.now.events }
-    ensures { pos result ≡ measure problem.now 1 entries.now }
-{
-    let mut hours: u32 = 0;
-    for event in 0..problem.event_count() {
-        hours += hours_of(problem, entries[event as usize], event);
-    }
-    hours
-}
-
-/// The event hours of an event with this entry.
-fn hours_of(problem: &Problem, entry: u32, event: u32) -> u32
-    requires { event < length problem.now.events }
-    ensures value { (a : List ℕ) → slice_index a event ≡ entry → pos result ≡ gained problem.now 1 a event }
-    ensures short { result ≤ 48 }
-{
-    if entry == 0 {
-        0
-    } else {
-        problem.takes(event).1
-    }
 }

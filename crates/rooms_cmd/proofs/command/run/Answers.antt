@@ -1,5 +1,3 @@
-use Rattle.std.proofs.Common.{subst}
-use Rattle.rooms_cmd.specs.Run.{RunEnds}
 use Rattle.rooms_cmd.proofs.ExpectedLaws.{quiet_run, complete_run}
 use Rattle.rooms_cmd.proofs.command.run.Goals as goal
 

@@ -1,10 +1,8 @@
-use Rattle.std.proofs.Common.{◌≡◌, arith, ◌∙◌, ap, ap₂, sym, subst}
-use Rattle.problem_core.specs.Measures.{IsBest, measure}
+use Rattle.std.proofs.Common.{refl, ◌≡◌, arith, ◌∙◌, ap, sym, subst}
+use Rattle.problem_core.specs.Measures.{IsBest}
 use Rattle.problem_core.specs.Choice.{IsLegal}
 use Rattle.problem_core.specs.FirstChoice.{IsFirstChoice}
-use Rattle.rooms_cmd.specs.Texts.{unplaced, placed_text, meeting_lines}
-use Rattle.room_model.specs.ProblemOf.{problem_of}
-use Rattle.timed_solution.specs.declared.times.Meeting.{Meeting}
+use Rattle.rooms_cmd.specs.Texts.{unplaced}
 use Rattle.rooms_cmd.proofs.SolveLaws.{all_placed, placed_is, named}
 use Rattle.rooms_cmd.proofs.solve.place.Goals as goal
 
@@ -21,10 +19,10 @@ returns-clause-answers c =
       all = none;
       legal = subst (λ p. IsLegal p a) same c.in_ok-choice.ensures.legal;
       best = subst (λ p. IsBest p 1 a) same (c.first_choice_laws.ensures.best _ a first (all_placed a none));
-      is = placed_is c.args.instance.now c.args.times.now a c.as_slice-entries.result.now c.as_slice.result.now c.args.problem.now _ c.in_ok-placed.ensures same c.as_slice.ensures listed;
+      is = placed_is c.args.instance.now c.args.times.now a a c.as_slice.result.now c.args.problem.now _ c.in_ok-placed.ensures same c.as_slice.ensures refl;
     }
 
 pub placed-requires-clause-known : goal.placed-requires-clause-known
 placed-requires-clause-known c =
-    named c.args.instance.now c.args.times.now c.in_ok-choice.choice.entries c.as_slice-entries.result.now c.as_slice.result.now c.args.problem.now
-    c.requires.times c.in_ok-choice.ensures.legal c.requires.same c.as_slice.ensures c.as_slice-entries.ensures
+    named c.args.instance.now c.args.times.now c.in_ok-choice.choice.entries c.in_ok-choice.choice.entries c.as_slice.result.now c.args.problem.now
+    c.requires.times c.in_ok-choice.ensures.legal c.requires.same c.as_slice.ensures refl
