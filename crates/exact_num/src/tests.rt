@@ -160,6 +160,9 @@ fn adds_products(rt: HostRuntime) -> Result<(), Fail> {
     assert_eq!(rt; left.len(), right.len());
     let sum = dot(&mut exact, left.as_slice(), right.as_slice());
     assert_eq!(rt; sum.ok(), Frac128::new(-7, 5));
+    let mut short = Exact64::new();
+    let half = Frac64::new(1, 2).ok_or("1/2")?;
+    assert_eq!(rt; dot(&mut short, &[half], &[half]).ok(), Frac64::new(1, 4));
     let third = Frac128::new(-1, 3).ok_or("-1/3")?;
     let quarter = Frac128::new(3, 4).ok_or("3/4")?;
     assert_eq!(rt; exact.sub(third, quarter).ok(), Frac128::new(-13, 12));
