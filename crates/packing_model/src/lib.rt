@@ -1,10 +1,23 @@
 //! The rows over the patterns of a problem, and what a choice of patterns must meet.
 #![tactic(auto)]
 
+mod close;
+mod cut;
 mod fixing;
+mod free;
 mod laws;
+mod model;
+mod point;
+mod pool;
 mod row;
 
+pub use close::{At, leaf_closes};
+pub use cut::{Cut, CutFault};
+pub use duality::{Leaf, LeafFault, RowName, Term};
 pub use fixing::Fixing;
+pub use free::{coefficient, is_free};
 pub use laws::packing_laws;
+pub use model::Model;
+pub use point::Point;
+pub use pool::{Pool, PoolFault};
 pub use row::Row;
