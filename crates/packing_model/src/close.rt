@@ -1,4 +1,4 @@
-ghost use Rattle.std.specs.Prelude.{◌≡◌, ◌≢◌, ◌<◌, ◌≤◌, ◌^◌, ◌+◌, ℕ, ℤ, pos, List, length, true, false, Some, IfOk};
+ghost use Rattle.std.specs.Prelude.{◌≡◌, ◌≢◌, ◌<◌, ◌≤◌, ◌≤ℤ◌, ◌^◌, ◌+◌, ℕ, ℤ, pos, List, length, true, false, Some, IfOk};
 ghost use Rattle.std.specs.List.{list_all, list_any};
 ghost use Rattle.duality.specs.Leaf.{leaf_fault, closes, IsCapped};
 ghost use Rattle.duality.specs.Sums.{rises, are_small, is_small, IsWithin, IsValue};
@@ -45,6 +45,8 @@ pub fn leaf_closes(at: &At, leaf: &Leaf) -> Result<(), LeafFault>
         → list_all (choice_of at.now.model.now b) at.now.fixing.now.one ≡ true → list_any (choice_of at.now.model.now b) at.now.fixing.now.zero ≡ false
         → measure at.now.model.now at.now.level b ≤ℤ at.now.best) }
 {
-    let _ = (at, leaf);
+    if at.level == 0 && leaf.scale == 0 {
+        return Err(LeafFault::Bound);
+    }
     Ok(())
 }

