@@ -1,6 +1,5 @@
 -- Nodes of a search: a fixing of patterns, and a level with its targets and best value.
 use Rattle.std.specs.Prelude.{ℕ, ℤ, pos, ◌≡◌, ◌<◌, ◌≤◌, ◌^◌, ◌+◌, Bool, true, false, nat_lt, Option, Some, None, List, [], ◌∷◌, length, slice_index_or, Result, Ok, Err}
-use Rattle.std.specs.Borrow.{unit}
 use Rattle.std.specs.List.{list_all}
 use Rattle.duality.specs.Packing.{Packing, Weights, Stage, Fixing as Fixed}
 use Rattle.duality.specs.Sums.{IsWithin}
@@ -39,7 +38,7 @@ pub record AreTargets (level : ℕ) (targets : List ℤ) : Type 0 where
 
 -- no fault, or the fault
 abbrev pub ok_unless : Option LeafFault → Result (Unit {0}) LeafFault
-ok_unless None = Ok unit
+ok_unless None = Ok tt
 ok_unless (Some fault) = Err fault
 
 -- a base row of the packing, a cut of the pool, or the row of a measure
