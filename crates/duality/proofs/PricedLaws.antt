@@ -1,5 +1,5 @@
 -- The order of rows, and the sums of a leaf as they are computed.
-use Rattle.std.proofs.Common.{ℕ, ◌≡◌, ◌≢◌, ◌+◌, ◌*◌, ◌<◌, ◌≤◌, arith, refl, sym, ◌∙◌, ap, zero, suc, Bool, true, false, not, ◌&&◌, ◌||◌, List, [], ◌∷◌, length, get_or, drop, add-one, inl, inr}
+use Rattle.std.proofs.Common.{ℕ, ◌≡◌, ◌≢◌, ◌+◌, ◌*◌, ◌<◌, ◌≤◌, arith, refl, sym, ◌∙◌, ap, zero, suc, Bool, true, false, not, ◌&&◌, ◌||◌, List, [], ◌∷◌, ◌++◌, length, get_or, drop, add-one, inl, inr}
 use Rattle.std.specs.Prelude.{◌^◌, FitsSigned, ℤ, pos, negsuc, ◌+ℤ◌, ◌*ℤ◌, ◌-ℤ◌, ◌==◌, slice_index_or, nat_lt, nat_le, if◌then◌else◌, is_some}
 use Rattle.std.specs.List.{list_all}
 use Rattle.std.proofs.lemmas.Int.{ints}
@@ -16,7 +16,7 @@ use Rattle.duality.specs.declared.leaf.Leaf.{Leaf}
 use Rattle.duality.specs.declared.objective.Weighed.TheVariants.{Floor, Level as AtLevel}
 use Rattle.duality.specs.Packing.{Packing, Weights, Stage, coefficient, right_side, level_coefficient, level_side, floor_level, is_there, as_number, floor_weight}
 use Rattle.duality.specs.Leaf.{priced, worth, reduced}
-use Rattle.duality.specs.Sums.{same_row, row_before, rises, rises_from, is_small, are_small, IsWithin, times_of, is_clique, clique_worth, level_sum, member_row, distinct_rows, AreRowsOf, AreLevelTimes, weighed, weighed_at, no_term}
+use Rattle.duality.specs.Sums.{same_row, row_before, rises, rises_from, is_small, are_small, IsWithin, times_of, is_clique, clique_worth, clique_priced, level_sum, member_row, distinct_rows, AreRowsOf, AreLevelTimes, weighed, weighed_at, no_term}
 
 -- ---- the order of rows
 
@@ -266,19 +266,49 @@ there-levels k w s few (t ∷ ts) all =
     let parts = and_parts (is_there k w s t.row) (list_all (λ t. is_there k w s t.row) ts) all in
     and_from (in_levels 7 t.row) (list_all (λ t. in_levels 7 t.row) ts) (there_in_levels k w s few t.row parts.0) (there-levels k w s few ts parts.1)
 
-split_row : (k : Packing) (w : Weights) (s : Stage) (rows : List RowName) (p : ℕ) → AreRowsOf k s rows p → (times : ℤ) (row : RowName) → is_there k w s row ≡ true
-    → times *ℤ coefficient k w s row p ≡ (times *ℤ as_number (member_row row rows)) +ℤ (times *ℤ level_part (λ j. level_coefficient w j p) row)
-split_row k w s rows p are times (Base r) h = rw (are.base r (ltb-true r k.base_len h)) (omega (arith, ints, *ℤ-zero times))
-split_row k w s rows p are times (Cut c) h = rw (are.cut c (ltb-true c (length s.cuts) h)) (omega (arith, ints, *ℤ-zero times))
-split_row k w s rows p are times (Level j) h = rw (are.level j) (omega (arith, ints, *ℤ-zero times))
+total-same_at : {A : Type 0} (test : A → Bool) (f g : A → ℤ) (xs : List A) → list_all test xs ≡ true → ((x : A) → test x ≡ true → f x ≡ g x) → total f xs ≡ total g xs
+total-same_at test f g [] all e = refl
+total-same_at test f g (x ∷ xs) all e =
+    let parts = and_parts (test x) (list_all test xs) all in
+    omega (arith, ints, e x parts.0, total-same_at test f g xs parts.1 e)
+
+pub total-append : {A : Type 0} (f : A → ℤ) (xs ys : List A) → total f (xs ++ ys) ≡ total f xs +ℤ total f ys
+total-append f [] ys = omega (arith, ints)
+total-append f (x ∷ xs) ys = omega (arith, ints, total-append f xs ys)
+
+member_priced : (k : Packing) (w : Weights) (s : Stage) (rows : List RowName) (p : ℕ) → AreRowsOf k s rows p → (times : ℤ) (row : RowName) → is_there k w s row ≡ true
+    → times *ℤ as_number (member_row row rows) ≡ picked (is_clique row) (times *ℤ coefficient k w s row p)
+member_priced k w s rows p are times (Base r) h = ap (λ b. times *ℤ as_number b) (are.base r (ltb-true r k.base_len h))
+member_priced k w s rows p are times (Cut c) h = ap (λ b. times *ℤ as_number b) (are.cut c (ltb-true c (length s.cuts) h))
+member_priced k w s rows p are times (Level j) h = ap (λ b. times *ℤ as_number b) (are.level j) ∙ *ℤ-zero times
+
+-- the rows of a pattern tell what base rows and cuts cost it
+pub cliques_split : (k : Packing) (w : Weights) (s : Stage) (terms : List Term) (rows : List RowName) (p : ℕ) → list_all (λ t. is_there k w s t.row) terms ≡ true → AreRowsOf k s rows p
+    → total (times_of terms) rows ≡ clique_priced k w s terms p
+cliques_split k w s terms rows p there are =
+    rows_are_terms terms rows are.differ
+    ∙ total-same_at (λ t. is_there k w s t.row) (λ t. t.times *ℤ as_number (member_row t.row rows)) (λ t. picked (is_clique t.row) (t.times *ℤ coefficient k w s t.row p)) terms there
+    (λ t h. member_priced k w s rows p are t.times t.row h)
+
+split_row : (k : Packing) (w : Weights) (s : Stage) (p : ℕ) (times : ℤ) (row : RowName)
+    → times *ℤ coefficient k w s row p ≡ picked (is_clique row) (times *ℤ coefficient k w s row p) +ℤ (times *ℤ level_part (λ j. level_coefficient w j p) row)
+split_row k w s p times (Base r) = omega (arith, ints, *ℤ-zero times)
+split_row k w s p times (Cut c) = omega (arith, ints, *ℤ-zero times)
+split_row k w s p times (Level j) = omega (arith, ints)
+
+-- a price is that of base rows and cuts, and that of level rows
+priced_parts : (k : Packing) (w : Weights) (s : Stage) (terms : List Term) (p : ℕ) → list_all (λ t. is_there k w s t.row) terms ≡ true → s.level ≤ 7
+    → priced k w s terms p ≡ clique_priced k w s terms p +ℤ level_sum terms (λ j. level_coefficient w j p)
+priced_parts k w s terms p there few =
+    total-two_at (λ t. is_there k w s t.row) (λ t. picked (is_clique t.row) (t.times *ℤ coefficient k w s t.row p)) (λ t. t.times *ℤ level_part (λ j. level_coefficient w j p) t.row) (λ t. t.times *ℤ coefficient k w s t.row p) terms there
+    (λ t h. split_row k w s p t.times t.row)
+    ∙ ap (λ x. clique_priced k w s terms p +ℤ x) (sym (levels_are_terms 7 (λ j. level_coefficient w j p) terms (there-levels k w s few terms there)))
 
 pub priced_split : (k : Packing) (w : Weights) (s : Stage) (terms : List Term) (rows : List RowName) (p : ℕ) → list_all (λ t. is_there k w s t.row) terms ≡ true → s.level ≤ 7 → AreRowsOf k s rows p
     → priced k w s terms p ≡ total (times_of terms) rows +ℤ level_sum terms (λ j. level_coefficient w j p)
 priced_split k w s terms rows p there few are =
-    total-two_at (λ t. is_there k w s t.row) (λ t. t.times *ℤ as_number (member_row t.row rows)) (λ t. t.times *ℤ level_part (λ j. level_coefficient w j p) t.row) (λ t. t.times *ℤ coefficient k w s t.row p) terms there
-    (λ t h. split_row k w s rows p are t.times t.row h)
-    ∙ ap (λ x. x +ℤ total (λ t. t.times *ℤ level_part (λ j. level_coefficient w j p) t.row) terms) (sym (rows_are_terms terms rows are.differ))
-    ∙ ap (λ x. total (times_of terms) rows +ℤ x) (sym (levels_are_terms 7 (λ j. level_coefficient w j p) terms (there-levels k w s few terms there)))
+    priced_parts k w s terms p there few
+    ∙ ap (λ x. x +ℤ level_sum terms (λ j. level_coefficient w j p)) (sym (cliques_split k w s terms rows p there are))
 
 split_side : (w : Weights) (s : Stage) (times : ℤ) (row : RowName) → times *ℤ right_side w s row ≡ picked (is_clique row) times +ℤ (times *ℤ level_part (level_side w s.targets) row)
 split_side w s times (Base r) = omega (arith, ints, *ℤ-one times, *ℤ-zero times)
@@ -304,22 +334,19 @@ regroup : (a w x r l rest_w rest_r rest_l both : ℤ) → x ≡ (a *ℤ w) -ℤ 
 regroup a w x r l rest_w rest_r rest_l both e h = omega (arith, ints, e, h, *ℤ-+ℤ a w rest_w)
 
 -- what the patterns that are taken sum to, with no sum over terms for each of them
-pub taken_split : (k : Packing) (w : Weights) (s : Stage) (leaf : Leaf) (rows_of : ℕ → List RowName) → list_all (λ t. is_there k w s t.row) leaf.terms ≡ true → s.level ≤ 7
-    → ((p : ℕ) → p < k.count → AreRowsOf k s (rows_of p) p) → (ps : List ℕ) → list_all (λ p. nat_lt p k.count) ps ≡ true
-    → total (reduced k w s leaf) ps ≡ (leaf.scale *ℤ total (w.weight s.level) ps) -ℤ (total (λ p. total (times_of leaf.terms) (rows_of p)) ps +ℤ level_sum leaf.terms (λ j. total (level_coefficient w j) ps))
-taken_split k w s leaf rows_of there few are [] known =
+pub taken_split : (k : Packing) (w : Weights) (s : Stage) (leaf : Leaf) → list_all (λ t. is_there k w s t.row) leaf.terms ≡ true → s.level ≤ 7
+    → (ps : List ℕ) → total (reduced k w s leaf) ps ≡ (leaf.scale *ℤ total (w.weight s.level) ps) -ℤ (total (clique_priced k w s leaf.terms) ps +ℤ level_sum leaf.terms (λ j. total (level_coefficient w j) ps))
+taken_split k w s leaf there few [] =
     let none : sum_below (λ i. times_of leaf.terms (Level (i + 1)) *ℤ pos 0) 7 ≡ pos 0 = sum_below-zero (λ i. times_of leaf.terms (Level (i + 1)) *ℤ pos 0) 7 (λ i l. *ℤ-zero (times_of leaf.terms (Level (i + 1)))) in
     ends leaf.scale _ none
   where
     ends : (a x : ℤ) → x ≡ pos 0 → pos 0 ≡ (a *ℤ pos 0) -ℤ (pos 0 +ℤ x)
     ends a x e = omega (arith, ints, e, *ℤ-zero a)
-taken_split k w s leaf rows_of there few are (p ∷ ps) known =
-    let parts = and_parts (nat_lt p k.count) (list_all (λ p. nat_lt p k.count) ps) known in
-    let here = priced_split k w s leaf.terms (rows_of p) p there few (are p (ltb-true p k.count parts.0)) in
-    ap (λ x. reduced k w s leaf p +ℤ x) (taken_split k w s leaf rows_of there few are ps parts.1)
-    ∙ regroup leaf.scale (w.weight s.level p) (reduced k w s leaf p) (total (times_of leaf.terms) (rows_of p)) (level_sum leaf.terms (λ j. level_coefficient w j p))
-    (total (w.weight s.level) ps) (total (λ p. total (times_of leaf.terms) (rows_of p)) ps) (level_sum leaf.terms (λ j. total (level_coefficient w j) ps)) (level_sum leaf.terms (λ j. total (level_coefficient w j) (p ∷ ps)))
-    (ap (λ x. (leaf.scale *ℤ w.weight s.level p) -ℤ x) here)
+taken_split k w s leaf there few (p ∷ ps) =
+    ap (λ x. reduced k w s leaf p +ℤ x) (taken_split k w s leaf there few ps)
+    ∙ regroup leaf.scale (w.weight s.level p) (reduced k w s leaf p) (clique_priced k w s leaf.terms p) (level_sum leaf.terms (λ j. level_coefficient w j p))
+    (total (w.weight s.level) ps) (total (clique_priced k w s leaf.terms) ps) (level_sum leaf.terms (λ j. total (level_coefficient w j) ps)) (level_sum leaf.terms (λ j. total (level_coefficient w j) (p ∷ ps)))
+    (ap (λ x. (leaf.scale *ℤ w.weight s.level p) -ℤ x) (priced_parts k w s leaf.terms p there few))
     (sum_of_two 7 leaf.terms (λ j. level_coefficient w j p) (λ j. total (level_coefficient w j) ps))
 
 -- a level row that is not there has no multiplier

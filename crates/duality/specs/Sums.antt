@@ -8,7 +8,7 @@ use Rattle.duality.specs.declared.row.RowName.TheVariants.{Base, Cut, Level}
 use Rattle.duality.specs.declared.row.Term.{Term}
 use Rattle.duality.specs.declared.objective.Weighed.{Weighed}
 use Rattle.duality.specs.declared.objective.Weighed.TheVariants.{Floor, Level as AtLevel}
-use Rattle.duality.specs.Packing.{Packing, Weights, Stage, cut_at, floor_weight, floor_level}
+use Rattle.duality.specs.Packing.{Packing, Weights, Stage, coefficient, cut_at, floor_weight, floor_level}
 
 abbrev pub same_row : RowName → RowName → Bool
 same_row (Base a) (Base b) = a == b
@@ -60,6 +60,10 @@ is_clique (Level j) = false
 -- the multipliers of "at most" rows with the right side 1
 abbrev pub clique_worth : List Term → ℤ
 clique_worth terms = total (λ t. picked (is_clique t.row) t.times) terms
+
+-- what the base rows and cuts among the terms cost a pattern
+abbrev pub clique_priced : Packing → Weights → Stage → List Term → ℕ → ℤ
+clique_priced k w s terms p = total (λ t. picked (is_clique t.row) (t.times *ℤ coefficient k w s t.row p)) terms
 
 -- the seven level rows, the floor's the last, each with a number
 abbrev pub level_sum : List Term → (ℕ → ℤ) → ℤ

@@ -1,4 +1,4 @@
-ghost use Rattle.std.specs.Prelude.{ℕ, ℤ, pos, ◌+ℤ◌, ◌-ℤ◌, ◌*ℤ◌, ◌≡◌, ◌<◌, ◌≤◌, ◌*◌, ◌^◌, length, true, nat_lt, slice_index_or};
+ghost use Rattle.std.specs.Prelude.{ℕ, ℤ, pos, ◌++◌, ◌+ℤ◌, ◌-ℤ◌, ◌*ℤ◌, ◌≡◌, ◌<◌, ◌≤◌, ◌*◌, ◌^◌, length, true, nat_lt, slice_index_or};
 ghost use Rattle.std.specs.List.{list_all};
 ghost use Rattle.numbers.specs.Sums.{total};
 ghost use Rattle.duality.specs.Packing.{level_coefficient, level_side};
@@ -9,7 +9,7 @@ use crate::leaf::Leaf;
 use crate::objective::{Objective, Weighed};
 use crate::row::RowName;
 use crate::sums::{
-    added, clique_worth, priced, priced_levels, product, weigh, weight_of, worth_levels,
+    added, clique_worth, priced_cliques, priced_levels, product, weigh, weight_of, worth_levels,
 };
 
 // A sum less a part, both far from the ends of the type.
@@ -21,14 +21,15 @@ fn lessened(sum: i128, part: i128) -> i128
     sum - part
 }
 
-/// The reduced cost of a pattern that stands in these base rows and cuts: the scale times its weight, less
-/// what the rows cost it. `times` are the multipliers of the leaf's level rows.
+/// The reduced cost of a pattern that stands in these base rows and these cuts: the scale times its weight,
+/// less what the rows cost it. `times` are the multipliers of the leaf's level rows.
 pub fn reduced_cost<O: Objective>(
     objective: &O,
     level: u32,
     leaf: &Leaf,
     times: &[i128; 7],
-    rows: &[RowName],
+    base: &[RowName],
+    cuts: &[RowName],
     pattern: u32,
 ) -> i128
     requires low { 1 ≤ level }
@@ -39,8 +40,9 @@ pub fn reduced_cost<O: Objective>(
     requires small { are_small leaf.now.terms ≡ true }
     requires times { AreLevelTimes leaf.now.terms times.now }
     requires levels { AreOfLevels (O.levels objective.now) times.now }
-    requires few { length rows.now ≤ 5000 }
-    ensures { result ≡ (leaf.now.scale *ℤ O.weight objective.now level pattern) -ℤ ((total (times_of leaf.now.terms) rows.now) +ℤ
+    requires few_base { length base.now ≤ 4000 }
+    requires few_cuts { length cuts.now ≤ 1000 }
+    ensures { result ≡ (leaf.now.scale *ℤ O.weight objective.now level pattern) -ℤ ((total (times_of leaf.now.terms) (base.now ++ cuts.now)) +ℤ
         level_sum leaf.now.terms (λ j. level_coefficient (record { weight = O.weight objective.now; floor = O.floor objective.now }) j pattern)) }
 {
     let gain = product(
@@ -50,7 +52,7 @@ pub fn reduced_cost<O: Objective>(
     let patterns = [pattern];
     let cost = added(
         priced_levels(objective, times, &patterns),
-        priced(leaf.terms.as_slice(), rows),
+        priced_cliques(leaf.terms.as_slice(), base, cuts),
     );
     lessened(gain, cost)
 }
@@ -71,7 +73,7 @@ pub fn left_side<O: Objective>(
     requires known { list_all (λ p. nat_lt p (O.count objective.now)) taken.now ≡ true }
     requires few { length taken.now ≤ 4000 }
     requires scale { is_small (10 ^ 24) leaf.now.scale ≡ true }
-    requires terms { length leaf.now.terms ≤ 5005 }
+    requires terms { length leaf.now.terms ≤ 5007 }
     requires small { are_small leaf.now.terms ≡ true }
     requires times { AreLevelTimes leaf.now.terms times.now }
     requires levels { AreOfLevels (O.levels objective.now) times.now }

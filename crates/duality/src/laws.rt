@@ -1,4 +1,4 @@
-ghost use Rattle.std.specs.Prelude.{◌∷◌, ◌≡◌, ◌<◌, ◌≤◌, ◌↔◌, [], ℕ, ℤ, pos, ◌≤ℤ◌, ◌+ℤ◌, ◌-ℤ◌, ◌*ℤ◌, Bool, true, false, List, ◌==◌, ◌&&◌, nat_lt};
+ghost use Rattle.std.specs.Prelude.{◌∷◌, ◌≡◌, ◌<◌, ◌≤◌, ◌↔◌, [], ℕ, ℤ, pos, ◌≤ℤ◌, ◌+ℤ◌, ◌-ℤ◌, ◌*ℤ◌, Bool, true, false, List, ◌==◌, ◌&&◌};
 ghost use Rattle.std.specs.List.{list_all};
 ghost use Rattle.numbers.specs.Sums.{value, sum_below, picked, total};
 ghost use Rattle.duality.specs.declared.row.RowName.{RowName};
@@ -10,7 +10,7 @@ ghost use Rattle.duality.specs.declared.leaf.Node.{Node};
 ghost use Rattle.duality.specs.declared.leaf.Node.TheVariants as nodes;
 ghost use Rattle.duality.specs.Packing.{Packing, Weights, Stage, Fixing, AreCliques, IsFixing, IsPacking, Meets, Follows, is_there, level_coefficient, level_side};
 ghost use Rattle.duality.specs.Leaf.{closes, costs, leaf_fault, cost_fault, priced, worth, reduced, IsCapped};
-ghost use Rattle.duality.specs.Sums.{times_of, clique_worth, level_sum, AreRowsOf};
+ghost use Rattle.duality.specs.Sums.{times_of, clique_worth, clique_priced, level_sum, AreRowsOf};
 ghost use Rattle.duality.specs.Tree.{ProofTree, can_branch, ends_at, proves_all, proves_level, proves, preorder, nothing_fixed};
 ghost use Rattle.duality.specs.Walk.{Step, step_at, fixing_of, pending, pending_of, turn};
 
@@ -64,19 +64,21 @@ pub fn choice_laws()
 {}
 
 /// The sums of a leaf may be taken over the rows of a pattern in place of all terms, with the seven level
-/// rows apart: the price of a pattern, the right side, and what the patterns that are taken sum to. A
-/// level row that is not there has the multiplier 0.
+/// rows apart: the price of a pattern, of which its base rows and cuts are one part, the right side, and
+/// what the patterns that are taken sum to. A level row that is not there has the multiplier 0.
 pub fn sum_laws()
     ensures priced { (k : Packing) (w : Weights) (s : Stage) (terms : List Term) (rows : List RowName) (p : ℕ)
         → list_all (λ t. is_there k w s t.row) terms ≡ true → s.level ≤ 7 → AreRowsOf k s rows p
         → priced k w s terms p ≡ (total (times_of terms) rows) +ℤ (level_sum terms (λ j. level_coefficient w j p)) }
+    ensures cliques { (k : Packing) (w : Weights) (s : Stage) (terms : List Term) (rows : List RowName) (p : ℕ)
+        → list_all (λ t. is_there k w s t.row) terms ≡ true → AreRowsOf k s rows p
+        → total (times_of terms) rows ≡ clique_priced k w s terms p }
     ensures worth { (k : Packing) (w : Weights) (s : Stage) (terms : List Term) → list_all (λ t. is_there k w s t.row) terms ≡ true → s.level ≤ 7
         → worth w s terms ≡ (clique_worth terms) +ℤ (level_sum terms (level_side w s.targets)) }
-    ensures taken { (k : Packing) (w : Weights) (s : Stage) (leaf : Leaf) (rows_of : ℕ → List RowName)
-        → list_all (λ t. is_there k w s t.row) leaf.terms ≡ true → s.level ≤ 7 → ((p : ℕ) → p < k.count → AreRowsOf k s (rows_of p) p)
-        → (ps : List ℕ) → list_all (λ p. nat_lt p k.count) ps ≡ true
+    ensures taken { (k : Packing) (w : Weights) (s : Stage) (leaf : Leaf)
+        → list_all (λ t. is_there k w s t.row) leaf.terms ≡ true → s.level ≤ 7 → (ps : List ℕ)
         → total (reduced k w s leaf) ps
-        ≡ (leaf.scale *ℤ (total (w.weight s.level) ps)) -ℤ ((total (λ p. total (times_of leaf.terms) (rows_of p)) ps) +ℤ (level_sum leaf.terms (λ j. total (level_coefficient w j) ps))) }
+        ≡ (leaf.scale *ℤ (total (w.weight s.level) ps)) -ℤ ((total (clique_priced k w s leaf.terms) ps) +ℤ (level_sum leaf.terms (λ j. total (level_coefficient w j) ps))) }
     ensures absent { (k : Packing) (w : Weights) (s : Stage) (terms : List Term) (j : ℕ) → list_all (λ t. is_there k w s t.row) terms ≡ true
         → is_there k w s (rows.Level j) ≡ false → times_of terms (rows.Level j) ≡ pos 0 }
 {}

@@ -1,4 +1,4 @@
-ghost use Rattle.std.specs.Prelude.{ℕ, ℤ, pos, ◌+◌, ◌+ℤ◌, ◌-ℤ◌, ◌≡◌, ◌≢◌, ◌<◌, ◌≤◌, ◌*◌, ◌^◌, ◌*ℤ◌, length, true, nat_lt, slice_index_or};
+ghost use Rattle.std.specs.Prelude.{ℕ, ℤ, pos, ◌++◌, ◌+◌, ◌+ℤ◌, ◌-ℤ◌, ◌≡◌, ◌≢◌, ◌<◌, ◌≤◌, ◌*◌, ◌^◌, ◌*ℤ◌, length, true, nat_lt, slice_index_or};
 ghost use Rattle.std.specs.List.{list_all};
 ghost use Rattle.numbers.specs.Sums.{total, picked, sum_below};
 ghost use Rattle.duality.specs.declared.row.RowName.TheVariants as rows;
@@ -65,13 +65,25 @@ pub fn priced(terms: &[Term], rows: &[RowName]) -> i128
     requires small { are_small terms.now ≡ true }
     requires few { length rows.now ≤ 5000 }
     ensures value { result ≡ total (times_of terms.now) rows.now }
-    ensures small { IsWithin (5000 * 10 ^ 24) result }
+    ensures small { IsWithin (length rows.now * 10 ^ 24) result }
 {
     let mut sum: i128 = 0;
     for row in rows {
         sum = added(sum, times_of(terms, *row));
     }
     sum
+}
+
+/// What the terms cost a pattern that stands in these base rows and these cuts.
+pub fn priced_cliques(terms: &[Term], base: &[RowName], cuts: &[RowName]) -> i128
+    requires rising { rises terms.now ≡ true }
+    requires small { are_small terms.now ≡ true }
+    requires few_base { length base.now ≤ 4000 }
+    requires few_cuts { length cuts.now ≤ 1000 }
+    ensures value { result ≡ total (times_of terms.now) (base.now ++ cuts.now) }
+    ensures small { IsWithin (5000 * 10 ^ 24) result }
+{
+    priced(terms, base) + priced(terms, cuts)
 }
 
 /// A sum and a part that are far from the ends of the type.
@@ -196,9 +208,9 @@ fn clique_times(term: Term) -> i128
 /// The sum of the multipliers of base rows and cuts, whose right side is 1.
 pub fn clique_worth(terms: &[Term]) -> i128
     requires small { are_small terms.now ≡ true }
-    requires few { length terms.now ≤ 5005 }
+    requires few { length terms.now ≤ 5007 }
     ensures value { result ≡ clique_worth terms.now }
-    ensures small { IsWithin (5005 * 10 ^ 24) result }
+    ensures small { IsWithin (5007 * 10 ^ 24) result }
 {
     let mut sum: i128 = 0;
     for term in terms {

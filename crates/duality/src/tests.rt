@@ -56,7 +56,7 @@ impl Objective for Numbered {
 // The leaf of scale 1 with one term closes at level 2 against the value 2, and not against 1.
 #[test]
 fn one_term(rt: HostRuntime) -> Result<(), Fail> {
-    let rows = [RowName::Base(0), RowName::Base(1)];
+    let base = [RowName::Base(0), RowName::Base(1)];
     let mut terms = Items::new(rt.alloc());
     terms.push(Term {
         row: RowName::Base(0),
@@ -64,7 +64,7 @@ fn one_term(rt: HostRuntime) -> Result<(), Fail> {
     })?;
     let leaf = Leaf { scale: 1, terms };
     let times = level_times(leaf.terms.as_slice());
-    let cost = reduced_cost(&Numbered, 2, &leaf, &times, &rows, 0);
+    let cost = reduced_cost(&Numbered, 2, &leaf, &times, &base, &[], 0);
     assert_eq!(rt; cost, 0);
     let left = left_side(&Numbered, 2, &leaf, &times, &[1], &[], 0);
     assert_eq!(rt; left, 2);

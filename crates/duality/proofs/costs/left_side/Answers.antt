@@ -18,8 +18,8 @@ added-cost-requires-clause-sum g c = plain_within (7 * (4 * 10 ^ 36)) (10 ^ 38) 
 
 pub sum_of_sides-requires-clause-worth : goal.sum_of_sides-requires-clause-worth
 sum_of_sides-requires-clause-worth g c =
-    rw (plain_sum (7 * (4 * 10 ^ 36)) (5005 * 10 ^ 24) (3 * 10 ^ 37) c.worth_levels.result c.clique_worth.result c.added-worth.result c.worth_levels.ensures.small c.clique_worth.ensures.small (lit≤ tt) (lit< tt) c.added-worth.ensures)
-    (within_sum (7 * (4 * 10 ^ 36)) (5005 * 10 ^ 24) (3 * 10 ^ 37) c.worth_levels.result c.clique_worth.result c.worth_levels.ensures.small c.clique_worth.ensures.small (lit≤ tt))
+    rw (plain_sum (7 * (4 * 10 ^ 36)) (5007 * 10 ^ 24) (3 * 10 ^ 37) c.worth_levels.result c.clique_worth.result c.added-worth.result c.worth_levels.ensures.small c.clique_worth.ensures.small (lit≤ tt) (lit< tt) c.added-worth.ensures)
+    (within_sum (7 * (4 * 10 ^ 36)) (5007 * 10 ^ 24) (3 * 10 ^ 37) c.worth_levels.result c.clique_worth.result c.worth_levels.ensures.small c.clique_worth.ensures.small (lit≤ tt))
 
 pub sum_of_sides-requires-clause-cost : goal.sum_of_sides-requires-clause-cost
 sum_of_sides-requires-clause-cost g c =
@@ -37,7 +37,7 @@ returns-clause-value g c =
     let w : Weights = record { weight = g.O.Objective.weight c.args.objective.now; floor = g.O.Objective.floor c.args.objective.now } in
     let terms = c.args.leaf.now.terms in
     let worth : to_z w128 (of_z w128 c.added-worth.result) ≡ level_sum terms (level_side w c.args.targets.now) +ℤ clique_worth terms =
-    plain_sum (7 * (4 * 10 ^ 36)) (5005 * 10 ^ 24) (3 * 10 ^ 37) c.worth_levels.result c.clique_worth.result c.added-worth.result c.worth_levels.ensures.small c.clique_worth.ensures.small (lit≤ tt) (lit< tt) c.added-worth.ensures
+    plain_sum (7 * (4 * 10 ^ 36)) (5007 * 10 ^ 24) (3 * 10 ^ 37) c.worth_levels.result c.clique_worth.result c.added-worth.result c.worth_levels.ensures.small c.clique_worth.ensures.small (lit≤ tt) (lit< tt) c.added-worth.ensures
     ∙ ap (λ z. z +ℤ c.clique_worth.result) (c.worth_levels.ensures.value ∙ many_patterns terms c.args.times.now (level_side w c.args.targets.now) c.requires.times)
     ∙ ap (λ z. level_sum terms (level_side w c.args.targets.now) +ℤ z) (c.clique_worth.ensures.value ∙ ap clique_worth c.as_slice.ensures) in
     let small : IsWithin (4 * 10 ^ 12) c.weigh.result = record { low = omega (arith, ints, c.weigh.ensures.small.low); high = omega (arith, ints, c.weigh.ensures.small.high) } in

@@ -1,4 +1,4 @@
-use Rattle.std.proofs.Common.{◌≡◌, ◌∙◌, ◌*◌, ◌^◌, arith, ap, lit<, lit≤}
+use Rattle.std.proofs.Common.{◌++◌, ◌≡◌, ◌∙◌, ◌*◌, ◌^◌, arith, ap, lit<, lit≤}
 use Rattle.std.specs.Prelude.{ℤ, ◌*ℤ◌, ◌+ℤ◌, ◌-ℤ◌}
 use Rattle.std.proofs.lemmas.Int.{ints}
 use mir.Syntax.{w128}
@@ -21,8 +21,8 @@ cost_is levels cliques r l x p q e a b = plain_sum (7 * (4 * 10 ^ 36)) (5000 * 1
 
 pub lessened-requires-clause-part : goal.lessened-requires-clause-part
 lessened-requires-clause-part g c =
-    rw (plain_sum (7 * (4 * 10 ^ 36)) (5000 * 10 ^ 24) (10 ^ 38) c.priced_levels.result c.priced.result c.added-cost.result c.priced_levels.ensures.small c.priced.ensures.small (lit≤ tt) (lit< tt) c.added-cost.ensures)
-    (within_sum (7 * (4 * 10 ^ 36)) (5000 * 10 ^ 24) (10 ^ 38) c.priced_levels.result c.priced.result c.priced_levels.ensures.small c.priced.ensures.small (lit≤ tt))
+    rw (plain_sum (7 * (4 * 10 ^ 36)) (5000 * 10 ^ 24) (10 ^ 38) c.priced_levels.result c.priced_cliques.result c.added-cost.result c.priced_levels.ensures.small c.priced_cliques.ensures.small (lit≤ tt) (lit< tt) c.added-cost.ensures)
+    (within_sum (7 * (4 * 10 ^ 36)) (5000 * 10 ^ 24) (10 ^ 38) c.priced_levels.result c.priced_cliques.result c.priced_levels.ensures.small c.priced_cliques.ensures.small (lit≤ tt))
 
 finish : (r gain cost a b : ℤ) → r ≡ gain -ℤ cost → gain ≡ a → cost ≡ b → IsWithin (10 ^ 37) gain → IsWithin (10 ^ 38) cost → to_z w128 (of_z w128 r) ≡ a -ℤ b
 finish r gain cost a b e p q h k = omega (arith, ints, e, p, q, h.low, h.high, k.low, k.high)
@@ -34,14 +34,14 @@ returns g c =
     let gain : to_z w128 (of_z w128 c.product-gain.result) ≡ c.args.leaf.now.scale *ℤ g.O.Objective.weight c.args.objective.now c.args.level c.args.pattern =
     plain_gain c.args.leaf.now.scale c.weight_of.result c.product-gain.result (small_within (10 ^ 24) c.args.leaf.now.scale c.requires.scale) small c.product-gain.ensures.small c.product-gain.ensures.value
     ∙ ap (λ z. c.args.leaf.now.scale *ℤ z) c.weight_of.ensures.value in
-    let cost : to_z w128 (of_z w128 c.added-cost.result) ≡ total (times_of c.args.leaf.now.terms) c.args.rows.now +ℤ level_sum c.args.leaf.now.terms (λ j. level_coefficient w j c.args.pattern) =
-    cost_is c.priced_levels.result c.priced.result c.added-cost.result _ _ c.priced_levels.ensures.small c.priced.ensures.small c.added-cost.ensures
+    let cost : to_z w128 (of_z w128 c.added-cost.result) ≡ total (times_of c.args.leaf.now.terms) (c.args.base.now ++ c.args.cuts.now) +ℤ level_sum c.args.leaf.now.terms (λ j. level_coefficient w j c.args.pattern) =
+    cost_is c.priced_levels.result c.priced_cliques.result c.added-cost.result _ _ c.priced_levels.ensures.small c.priced_cliques.ensures.small c.added-cost.ensures
     (c.priced_levels.ensures.value ∙ one_pattern c.args.leaf.now.terms c.args.times.now w c.args.pattern c.requires.times)
-    (c.priced.ensures.value ∙ ap (λ ts. total (times_of ts) c.args.rows.now) c.as_slice.ensures) in
+    (c.priced_cliques.ensures.value ∙ ap (λ ts. total (times_of ts) (c.args.base.now ++ c.args.cuts.now)) c.as_slice.ensures) in
     finish c.lessened.result (to_z w128 (of_z w128 c.product-gain.result)) (to_z w128 (of_z w128 c.added-cost.result))
     (c.args.leaf.now.scale *ℤ g.O.Objective.weight c.args.objective.now c.args.level c.args.pattern)
-    (total (times_of c.args.leaf.now.terms) c.args.rows.now +ℤ level_sum c.args.leaf.now.terms (λ j. level_coefficient w j c.args.pattern))
+    (total (times_of c.args.leaf.now.terms) (c.args.base.now ++ c.args.cuts.now) +ℤ level_sum c.args.leaf.now.terms (λ j. level_coefficient w j c.args.pattern))
     c.lessened.ensures gain cost
     (plain_within (4 * 10 ^ 36) (10 ^ 37) c.product-gain.result (lit≤ tt) (lit< tt) c.product-gain.ensures.small)
-    (rw (plain_sum (7 * (4 * 10 ^ 36)) (5000 * 10 ^ 24) (10 ^ 38) c.priced_levels.result c.priced.result c.added-cost.result c.priced_levels.ensures.small c.priced.ensures.small (lit≤ tt) (lit< tt) c.added-cost.ensures)
-    (within_sum (7 * (4 * 10 ^ 36)) (5000 * 10 ^ 24) (10 ^ 38) c.priced_levels.result c.priced.result c.priced_levels.ensures.small c.priced.ensures.small (lit≤ tt)))
+    (rw (plain_sum (7 * (4 * 10 ^ 36)) (5000 * 10 ^ 24) (10 ^ 38) c.priced_levels.result c.priced_cliques.result c.added-cost.result c.priced_levels.ensures.small c.priced_cliques.ensures.small (lit≤ tt) (lit< tt) c.added-cost.ensures)
+    (within_sum (7 * (4 * 10 ^ 36)) (5000 * 10 ^ 24) (10 ^ 38) c.priced_levels.result c.priced_cliques.result c.priced_levels.ensures.small c.priced_cliques.ensures.small (lit≤ tt)))
