@@ -4,3 +4,4 @@ pub mod ChosenLemmas
 pub mod SumLemmas
 pub mod WeighLemmas
 pub mod MadeLemmas
+pub mod FewLemmas

@@ -1,8 +1,8 @@
 -- The choice that a list of patterns makes is legal, and chooses the list's patterns.
-use Rattle.std.proofs.Common.{ℕ, ◌≡◌, ◌≢◌, ◌+◌, ◌-◌, ◌<◌, ◌≤◌, inl, inr, zero, suc, Bool, true, false, not, ◌&&◌, ◌||◌, refl, arith, ap, ap₂, sym, ◌∙◌, cond, List, [], ◌∷◌, length, get_or, drop, subst}
+use Rattle.std.proofs.Common.{ℕ, ◌≡◌, ◌≢◌, ◌+◌, ◌-◌, ◌<◌, ◌≤◌, inl, inr, zero, suc, Bool, true, false, not, ◌&&◌, ◌||◌, refl, arith, ap, sym, ◌∙◌, cond, List, [], ◌∷◌, length, get_or, drop, subst}
 use Rattle.std.specs.Prelude.{◌==◌, IsTrue}
-use Rattle.std.proofs.lemmas.Bool.{cases_eq, cases_lt, cases_Bool, cond-true, cond-false, and_parts, and_cases, and_from, or_parts, not-true, not-false, not_from_true, not_from_false, eq-eqb, eqb-true, ne_eqb, true≢false, false_from_ne_true, or_left, or_right}
-use Rattle.numbers.specs.Below.{any_below, any_below_at, none_below}
+use Rattle.std.proofs.lemmas.Bool.{cases_eq, cases_lt, cases_Bool, cond-true, cond-false, and_parts, and_cases, and_from, or_parts, not-false, eq-eqb, eqb-true, ne_eqb, true≢false, false_from_ne_true, or_left, or_right}
+use Rattle.numbers.specs.Below.{any_below, any_below_at}
 use Rattle.numbers.specs.Sums.{member}
 use Rattle.problem_core.specs.Facts.{Facts, suits, share_slot, course_of}
 use Rattle.problem_core.specs.Choice.{entry, IsLegal}
@@ -13,10 +13,10 @@ use Rattle.problem_core.specs.Passing.{any_passing}
 use Rattle.problem_core.specs.Courses.{is_of_course, place_of, events_of}
 use Rattle.problem_core.specs.Valid.{IsProblem}
 use Rattle.problem_core.specs.SharedSlots.{share_slot-sym}
-use Rattle.meeting_patterns.specs.Pattern.{has_bit, within, IsPattern, IsBefore, ArePatterns, pattern_at, is_same, share_event, share_a_slot, clash, chooses}
+use Rattle.meeting_patterns.specs.Pattern.{has_bit, within, ArePatterns, pattern_at, is_same, share_event, share_a_slot, clash, chooses}
 use Rattle.meeting_patterns.specs.Made.{made, IsMade, AreClashless}
 use Rattle.meeting_patterns.specs.declared.pattern.Pattern.{Pattern}
-use Rattle.meeting_patterns.proofs.ChosenLemmas.{IsHeld, held, chooses_from, same_pattern, before_differs}
+use Rattle.meeting_patterns.proofs.ChosenLemmas.{held, chooses_from, same_pattern, before_differs}
 use Rattle.meeting_patterns.proofs.SumLemmas.{some_event}
 
 record IsMadeBy (p : Facts) (s : List Pattern) (list : List ℕ) (e j : ℕ) : Type 0 where
@@ -67,7 +67,7 @@ two_from p x y h differ = elim (and_cases (not (is_same x y)) (share_event p x y
       }
 ]
 
-at_list : List Pattern → List ℕ → ℕ → Pattern
+unfoldable pub at_list : List Pattern → List ℕ → ℕ → Pattern
 at_list s list j = pattern_at s (get_or list j 0)
 
 not_same : (p : Facts) (s : List Pattern) (m n : ℕ) → ArePatterns p s → m < length s → n < length s → m ≢ n → is_same (pattern_at s m) (pattern_at s n) ≡ false
@@ -90,7 +90,7 @@ two_at p s list j k are free less l =
     two_from p (pattern_at s (get_or list j 0)) (pattern_at s (get_or list k 0)) (free.apart j k less l) (not_same p s (get_or list j 0) (get_or list k 0) are (free.known j (omega arith)) (free.known k l) (free.differ j k less l))
 
 -- one event is in one pattern of the list alone
-only_one : (p : Facts) (s : List Pattern) (list : List ℕ) (e j k : ℕ) → ArePatterns p s → AreClashless p s list → e < length p.events → j < length list → k < length list
+pub only_one : (p : Facts) (s : List Pattern) (list : List ℕ) (e j k : ℕ) → ArePatterns p s → AreClashless p s list → e < length p.events → j < length list → k < length list
     → within p (at_list s list j) e ≡ true → within p (at_list s list k) e ≡ true → j ≡ k
 only_one p s list e j k are free l jl kl hj hk = elim (cases_eq j k) [
   | inl same ↦ same
@@ -167,7 +167,7 @@ chooses_at p s list a j are free is l =
           true≢false (sym bits.1 ∙ ap (λ k. has_bit (at_list s list k).mask (place_of p e)) (sym one) ∙ none)))
     ])
 
-member_at : (i : ℕ) (list : List ℕ) → member i list ≡ true → (j : ℕ) × (j < length list) × (get_or list j 0 ≡ i)
+pub member_at : (i : ℕ) (list : List ℕ) → member i list ≡ true → (j : ℕ) × (j < length list) × (get_or list j 0 ≡ i)
 member_at i [] h = absurd (true≢false (sym h))
 member_at i (q ∷ qs) h = elim (cases_eq q i) [
   | inl same ↦ (0, omega arith, same)
@@ -181,7 +181,7 @@ at_member i [] j l h = absurd (omega arith)
 at_member i (q ∷ qs) zero l h = or_left (q == i) (member i qs) (eq-eqb q i h)
 at_member i (q ∷ qs) (suc j) l h = or_right (q == i) (member i qs) (at_member i qs j (omega arith) h)
 
-first_event : (test : ℕ → Bool) (n : ℕ) → any_below test n ≡ true → (e : ℕ) × (e < n) × (test e ≡ true)
+pub first_event : (test : ℕ → Bool) (n : ℕ) → any_below test n ≡ true → (e : ℕ) × (e < n) × (test e ≡ true)
 first_event test zero h = absurd (true≢false (sym h))
 first_event test (suc n) h = elim (cases_Bool (test n)) [
   | inl hit ↦ (n, omega arith, hit)

@@ -12,7 +12,7 @@ use duality::choice_laws;
 
 /// The list holds each pattern once, in order. The patterns that a legal choice chooses don't clash, and
 /// their weights sum to its measures. The choice that patterns which don't clash make is legal, and the
-/// patterns that it chooses are those.
+/// patterns that it chooses are those. Patterns that don't clash are at most as many as the events.
 pub fn pattern_laws()
     ensures listed { (p : Facts) → ArePatterns p (patterns_of p) }
     ensures apart { (p : Facts) (s : List Pattern) (a : List ℕ) → ArePatterns p s → IsLegal p a → (i j : ℕ) → i < length s → j < length s
@@ -22,6 +22,7 @@ pub fn pattern_laws()
     ensures legal { (p : Facts) (s : List Pattern) (list a : List ℕ) → IsProblem p → ArePatterns p s → AreClashless p s list → IsMade p s list a → IsLegal p a }
     ensures back { (p : Facts) (s : List Pattern) (list a : List ℕ) → ArePatterns p s → AreClashless p s list → IsMade p s list a → (i : ℕ) → i < length s
         → chooses p a (pattern_at s i) ≡ member i list }
+    ensures few { (p : Facts) (s : List Pattern) (list : List ℕ) → ArePatterns p s → AreClashless p s list → length list ≤ length p.events }
 {
     choice_laws();
 }

@@ -1,4 +1,5 @@
 use Rattle.meeting_patterns.proofs.ChosenLemmas.{apart}
+use Rattle.meeting_patterns.proofs.FewLemmas.{few_patterns}
 use Rattle.meeting_patterns.proofs.ListLemmas.{patterns_are}
 use Rattle.meeting_patterns.proofs.MadeLemmas.{made_legal, made_chooses}
 use Rattle.meeting_patterns.proofs.SumLemmas.{measured}
@@ -12,4 +13,5 @@ returns c = record {
   measured = λ p s a courses are legal k. measured c.choice_laws.ensures.measured p s a courses are legal k;
   legal = made_legal;
   back = made_chooses;
+  few = few_patterns c.choice_laws.ensures.few;
 }
