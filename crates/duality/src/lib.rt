@@ -15,7 +15,7 @@ pub use leaf::{Leaf, LeafFault, Node};
 pub use objective::{Objective, Weighed};
 pub use row::{FLOOR_LEVEL, RowName, Term};
 pub use sums::{
-    added, clique_worth, is_before, level_times, priced_cliques, priced_levels, product, times_of,
+    added, clique_worth, is_before, is_same, level_times, priced_cliques, priced_levels, product, times_of,
     weigh, weight_of, worth_levels,
 };
 

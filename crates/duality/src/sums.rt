@@ -8,8 +8,8 @@ ghost use Rattle.duality.specs.Sums.{row_before, same_row, rises, are_small, IsW
 use crate::objective::{Objective, Weighed};
 use crate::row::{FLOOR_LEVEL, RowName, Term};
 
-// Whether two names are of one row.
-fn is_same(a: RowName, b: RowName) -> bool
+/// Whether two names are of one row.
+pub fn is_same(a: RowName, b: RowName) -> bool
     ensures { result ≡ same_row a b }
 {
     match (a, b) {

@@ -1,2 +1,4 @@
 pub mod RowLemmas
 pub mod FixingLemmas
+pub mod ListLemmas
+pub mod CutLemmas

@@ -3,27 +3,23 @@ use Rattle.std.specs.Prelude.{ℕ, ◌≡◌, ◌<◌, ◌≤◌, ◌&&◌, nat_
 use Rattle.std.specs.List.{list_all}
 use Rattle.std.specs.Option.{option_or}
 use Rattle.duality.specs.Packing.{Packing}
+use Rattle.packing_model.specs.Rising.{is_rising}
 use Rattle.packing_model.specs.declared.cut.CutFault.{CutFault}
 use Rattle.packing_model.specs.declared.cut.CutFault.TheVariants.{NotClique, Memory}
 
-abbrev pub rises_from : ℕ → List ℕ → Bool
-rises_from p [] = true
-rises_from p (q ∷ qs) = nat_lt p q && rises_from q qs
-
--- each number is greater than the one before
-abbrev pub is_rising : List ℕ → Bool
-is_rising [] = true
-is_rising (p ∷ ps) = rises_from p ps
-
 -- the first of the patterns that does not clash with p
-abbrev pub first_apart_from : (ℕ → ℕ → Bool) → ℕ → List ℕ → Option (ℕ × ℕ)
-first_apart_from clash p [] = None
-first_apart_from clash p (q ∷ qs) = if clash p q then first_apart_from clash p qs else Some (p, q)
+abbrev pub first_clear_of : (ℕ → ℕ → Bool) → ℕ → List ℕ → Option ℕ
+first_clear_of clash p [] = None
+first_clear_of clash p (q ∷ qs) = if clash p q then first_clear_of clash p qs else Some q
+
+abbrev pub pair_with : ℕ → Option ℕ → Option (ℕ × ℕ)
+pair_with p None = None
+pair_with p (Some q) = Some (p, q)
 
 -- the first pair that does not clash, in order of its first pattern, then its second
 abbrev pub first_apart : (ℕ → ℕ → Bool) → List ℕ → Option (ℕ × ℕ)
 first_apart clash [] = None
-first_apart clash (p ∷ ps) = option_or (first_apart_from clash p ps) (first_apart clash ps)
+first_apart clash (p ∷ ps) = option_or (pair_with p (first_clear_of clash p ps)) (first_apart clash ps)
 
 -- 2 to 1,000 patterns in rising order
 pub record IsCutList (count : ℕ) (ps : List ℕ) : Type 0 where

@@ -1,12 +1,12 @@
-ghost use Rattle.std.specs.Prelude.{◌≡◌, ◌<◌, ◌≤◌, ◌+◌, ◌++◌, ◌∷◌, [], ℕ, List, length, slice_index_or};
+ghost use Rattle.std.specs.Prelude.{◌≡◌, ◌<◌, ◌≤◌, ℕ, List, length, true, nat_lt};
+ghost use Rattle.std.specs.List.{list_all};
 ghost use Rattle.meeting_patterns.specs.Pattern.{patterns_of};
-ghost use Rattle.duality.specs.Packing.{cut_at};
 ghost use Rattle.packing_model.specs.Built.{packing};
-ghost use Rattle.packing_model.specs.Cuts.{IsCutList, IsCutOf, MakesCut};
+ghost use Rattle.packing_model.specs.Rising.{is_rising};
+ghost use Rattle.packing_model.specs.Cuts.{IsCutList, MakesCut, first_apart, first_clear_of};
 
 use crate::model::Model as PackingModel;
-use problem_core::Memory;
-use std::alloc::Global;
+use std::alloc::{AllocError, Global};
 use std::marker::Model;
 use values::Items;
 
@@ -17,6 +17,17 @@ pub enum CutFault {
     Memory,
 }
 
+impl From<AllocError> for CutFault {
+    ghost use Rattle.std.specs.Prelude.{◌≡◌};
+    ghost use Rattle.packing_model.specs.declared.cut.CutFault.TheVariants as faults;
+
+    ghost from_gives = { λ _ fault. fault ≡ faults.Memory };
+
+    fn from(_: AllocError) -> CutFault {
+        CutFault::Memory
+    }
+}
+
 /// Patterns that clash in pairs, of which a choice has at most one. Contracts see the list.
 #[derive(Debug, Drop)]
 pub struct Cut {
@@ -24,11 +35,14 @@ pub struct Cut {
 }
 
 impl Model for Cut {
-    ghost use Rattle.std.specs.Prelude.{ℕ, List};
+    ghost use Rattle.std.specs.Prelude.{ℕ, List, ◌≡◌, true};
+    ghost use Rattle.packing_model.specs.Rising.{is_rising};
 
     ghost Value = { List ℕ };
 
     ghost view = { λ c. c.patterns };
+
+    ghost invariant = { λ c. is_rising c.patterns ≡ true };
 }
 
 impl Cut {
@@ -38,17 +52,45 @@ impl Cut {
         requires { IsCutList (length (patterns_of m.now)) patterns.now }
         ensures { MakesCut (packing m.now) patterns.now result }
     {
-        let _ = m;
-        match Items::from_slice(alloc, patterns) {
-            Ok(patterns) => Ok(Cut { patterns }),
-            Err(_) => Err(CutFault::Memory),
+        if let Some((first, second)) = first_apart(m, patterns) {
+            return Err(CutFault::NotClique { first, second });
         }
+        let patterns = Items::from_slice(alloc, patterns)?;
+        Ok(Cut { patterns })
     }
 
-    /// The patterns of the cut.
+    /// The patterns of the cut, in rising order.
     pub fn patterns(&self) -> &[u32]
-        ensures { result.now ≡ self.now }
+        ensures patterns { result.now ≡ self.now }
+        ensures rising { is_rising self.now ≡ true }
     {
         self.patterns.as_slice()
     }
+}
+
+// The first two patterns that do not clash, in order of the first, then the second.
+fn first_apart(m: &PackingModel, patterns: &[u32]) -> Option<(u32, u32)>
+    requires { list_all (λ p. nat_lt p (length (patterns_of m.now))) patterns.now ≡ true }
+    ensures { result ≡ first_apart (packing m.now).clash patterns.now }
+{
+    for (i, first) in patterns.iter().enumerate() {
+        if let Some(second) = first_clear_of(m, *first, &patterns[i + 1..]) {
+            return Some((*first, second));
+        }
+    }
+    None
+}
+
+// The first of the patterns that does not clash with this one.
+fn first_clear_of(m: &PackingModel, pattern: u32, others: &[u32]) -> Option<u32>
+    requires pattern { pattern < length (patterns_of m.now) }
+    requires others { list_all (λ p. nat_lt p (length (patterns_of m.now))) others.now ≡ true }
+    ensures { result ≡ first_clear_of (packing m.now).clash pattern others.now }
+{
+    for other in others {
+        if !m.clash(pattern, *other) {
+            return Some(*other);
+        }
+    }
+    None
 }

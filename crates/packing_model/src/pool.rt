@@ -1,9 +1,12 @@
-ghost use Rattle.std.specs.Prelude.{◌≡◌, ◌<◌, ◌≤◌, ◌++◌, ◌∷◌, [], ℕ, List, length, slice_index_or, Result, Ok, Err};
+ghost use Rattle.std.specs.Prelude.{◌≡◌, ◌<◌, ◌≤◌, ◌++◌, ◌∷◌, [], ℕ, List, length, slice_index_or, OnOk, OnErr, true};
+ghost use Rattle.packing_model.specs.Rising.{is_rising};
 ghost use Rattle.packing_model.specs.Pools.{Adds, AreCutRowsOf};
+ghost use Rattle.packing_model.specs.CutTable.{Adds as AddsRows, AreSameRows};
 
 use crate::cut::Cut;
 use duality::RowName;
-use std::alloc::Global;
+use problem_core::Memory;
+use std::alloc::{AllocError, Global};
 use std::marker::Model;
 use values::Items;
 
@@ -17,20 +20,35 @@ pub enum PoolFault {
     Memory,
 }
 
+impl From<AllocError> for PoolFault {
+    ghost use Rattle.std.specs.Prelude.{◌≡◌};
+    ghost use Rattle.packing_model.specs.declared.pool.PoolFault.TheVariants as faults;
+
+    ghost from_gives = { λ _ fault. fault ≡ faults.Memory };
+
+    fn from(_: AllocError) -> PoolFault {
+        PoolFault::Memory
+    }
+}
+
 /// Cuts, numbered from 0 in the order in which they were added. Contracts see the list of their lists.
-#[derive(Debug, Drop)]
+#[derive(Drop)]
 pub struct Pool {
+    alloc: Global,
     cuts: Items<Cut>,
+    /// For each pattern up to the largest of a cut the rows of its cuts, in rising order.
+    rows: Vec<Items<RowName>>,
 }
 
 impl Model for Pool {
     ghost use Rattle.std.specs.Prelude.{ℕ, List, ◌≤◌, length};
+    ghost use Rattle.packing_model.specs.CutTable.{IsCutTable};
 
     ghost Value = { List (List ℕ) };
 
     ghost view = { λ p. p.cuts };
 
-    ghost invariant = { λ p. length p.cuts ≤ 1000 };
+    ghost invariant = { λ p. (length p.cuts ≤ 1000) × IsCutTable p.cuts p.rows.items };
 }
 
 impl Pool {
@@ -39,7 +57,9 @@ impl Pool {
         ensures { result ≡ [] }
     {
         Pool {
+            alloc,
             cuts: Items::new(alloc),
+            rows: Vec::new(alloc),
         }
     }
 
@@ -52,9 +72,14 @@ impl Pool {
         if number == MOST_CUTS {
             return Err(PoolFault::Full);
         }
-        match self.cuts.push(c) {
+        self.cuts.push(c)?;
+        let patterns = self.cuts.as_slice()[number].patterns();
+        match add_rows(self.alloc, &mut self.rows, patterns, number as u32) {
             Ok(()) => Ok(number as u32),
-            Err(_) => Err(PoolFault::Memory),
+            Err(Memory) => {
+                let _ = self.cuts.pop();
+                Err(PoolFault::Memory)
+            }
         }
     }
 
@@ -78,6 +103,49 @@ impl Pool {
     pub fn cut_rows(&self, pattern: u32) -> &[RowName]
         ensures { AreCutRowsOf self.now result.now pattern }
     {
-        &[]
+        match self.rows.get(pattern as usize) {
+            Some(rows) => rows.as_slice(),
+            None => &[],
+        }
     }
+}
+
+// Adds the row of the cut to each of its patterns, one after the other; where memory is wanting, the rows
+// that were added are taken away again.
+fn add_rows(
+    alloc: Global,
+    table: &mut Vec<Items<RowName>>,
+    patterns: &[u32],
+    number: u32,
+) -> Result<(), Memory>
+    requires { is_rising patterns.now ≡ true }
+    ensures longer { length table.old.items ≤ length table.new.items }
+    ensures ok { OnOk result (AddsRows number patterns.now table.old.items table.new.items) }
+    ensures err { OnErr result (AreSameRows table.old.items table.new.items) }
+{
+    let Some((first, rest)) = patterns.split_first() else {
+        return Ok(());
+    };
+    let at = *first as usize;
+    lengthen(alloc, table, at + 1)?;
+    table[at].push(RowName::Cut(number))?;
+    let added = add_rows(alloc, table, rest, number);
+    if added.is_err() {
+        let _ = table[at].pop();
+    }
+    added
+}
+
+// Makes the table at least so long, by patterns that stand in no cut.
+fn lengthen(alloc: Global, table: &mut Vec<Items<RowName>>, count: usize) -> Result<(), Memory>
+    ensures longer { length table.old.items ≤ length table.new.items }
+    ensures ok { OnOk result (count ≤ length table.new.items) }
+    ensures same { AreSameRows table.old.items table.new.items }
+{
+    'more: while table.len() < count {
+        if table.push(Items::new(alloc)).is_err() {
+            return Err(Memory);
+        }
+    }
+    Ok(())
 }
