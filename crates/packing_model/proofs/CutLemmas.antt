@@ -187,8 +187,10 @@ row_back first number old longer pushed after new row r same l m is kept held re
   where
     whole : held ≡ get_or longer first [] ++ Cut number ∷ []
     whole = read ∙ kept.rows first ∙ ap (λ t. rows_at t first) is ∙ get_or-set_same longer first (get_or longer first [] ++ Cut number ∷ []) [] l
+
     back : row ≡ get_or longer first []
     back = push_back (get_or longer first []) row (Cut number) r (rw whole at popped)
+
     at : (i : ℕ) → rows_at new i ≡ rows_at old i
     at i = elim (cases_eq first i) [
       | inl here ↦
