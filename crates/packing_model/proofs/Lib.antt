@@ -1,2 +1,9 @@
 pub mod RowLemmas
 pub mod FixingLemmas
+pub mod DistinctLemmas
+pub mod KeyLemmas
+pub mod BaseLemmas
+pub mod NameLemmas
+pub mod StepLemmas
+pub mod TableLemmas
+pub mod ModelLemmas

@@ -5,11 +5,14 @@ mod close;
 mod cut;
 mod fixing;
 mod free;
+mod keys;
 mod laws;
 mod model;
+mod names;
 mod point;
 mod pool;
 mod row;
+mod rows;
 
 pub use close::{At, leaf_closes};
 pub use cut::{Cut, CutFault};
