@@ -11,7 +11,7 @@ pub use choose::{chosen, to_choice};
 pub use laws::pattern_laws;
 pub use pattern::Pattern;
 pub use set::{PatternSet, count};
-pub use weigh::{clash, weights};
+pub use weigh::{clash, weights, within};
 
 #[cfg(test)]
 mod tests {

@@ -5,11 +5,19 @@ ghost use Rattle.problem_core.specs.Facts.{share_slot};
 ghost use Rattle.problem_core.specs.Kept.{IsWithin};
 ghost use Rattle.problem_core.specs.Courses.{place_of, is_of_course, events_of};
 ghost use Rattle.problem_core.specs.Measures.{gain};
-ghost use Rattle.meeting_patterns.specs.Pattern.{IsPattern, has_bit, weight, weights, clash, share_event, share_a_slot};
+ghost use Rattle.meeting_patterns.specs.Pattern.{IsPattern, has_bit, within, weight, weights, clash, share_event, share_a_slot};
 
 use crate::pattern::Pattern;
 use crate::set::has_bit;
 use problem_core::Problem;
+
+/// Whether the event is one of the pattern's.
+pub fn within(p: &Problem, a: Pattern, event: u32) -> bool
+    requires { event < length p.now.events }
+    ensures { result ≡ within p.now a event }
+{
+    a.course == p.course_of(event) && has_bit(u32::from(a.mask), p.place_of(event))
+}
 
 /// What the pattern adds to the six measures: what its meetings gain in its room, and -1 in course rooms.
 pub fn weights(p: &Problem, a: Pattern) -> [i64; 6]

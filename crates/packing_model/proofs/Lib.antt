@@ -4,3 +4,10 @@ pub mod ListLemmas
 pub mod CutLemmas
 pub mod NodeLemmas
 pub mod SumLemmas
+pub mod DistinctLemmas
+pub mod KeyLemmas
+pub mod BaseLemmas
+pub mod NameLemmas
+pub mod StepLemmas
+pub mod TableLemmas
+pub mod ModelLemmas

@@ -1,5 +1,5 @@
 -- A problem's patterns as a packing, what building a model answers, and the base rows of a pattern.
-use Rattle.std.specs.Prelude.{ℕ, ◌≡◌, ◌<◌, ◌≤◌, nat_lt, if◌then◌else◌, Bool, true, false, List, length, Option, Some, None, Result, Ok, Err}
+use Rattle.std.specs.Prelude.{ℕ, ◌≡◌, ◌<◌, ◌≤◌, nat_lt, if◌then◌else◌, true, false, List, length, Option, Some, None, Result, Ok, Err}
 use Rattle.problem_core.specs.Facts.{Facts}
 use Rattle.problem_core.specs.declared.limit.Limit.{Limit}
 use Rattle.problem_core.specs.declared.limit.LimitKind.TheVariants.{Patterns, Rows}

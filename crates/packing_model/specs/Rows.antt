@@ -1,5 +1,5 @@
 -- The base rows of a problem's patterns, and the packing that they make.
-use Rattle.std.specs.Prelude.{ℕ, ℤ, ◌+◌, ◌<◌, ◌&&◌, ◌==◌, nat_le, nat_lt, Bool, false, zero, suc, None, List, [], ◌∷◌, ◌++◌, map, length, slice_index_or}
+use Rattle.std.specs.Prelude.{ℕ, ◌&&◌, ◌==◌, nat_le, nat_lt, Bool, false, zero, suc, None, List, [], ◌++◌, map, length, slice_index_or}
 use Rattle.numbers.specs.Below.{any_below}
 use Rattle.problem_core.specs.Facts.{Facts, takes_slot}
 use Rattle.problem_core.specs.Courses.{passing}

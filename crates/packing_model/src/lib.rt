@@ -5,12 +5,15 @@ mod close;
 mod cut;
 mod fixing;
 mod free;
+mod keys;
 mod laws;
 mod measured;
 mod model;
+mod names;
 mod point;
 mod pool;
 mod row;
+mod rows;
 
 pub use close::{At, ObjectiveAt, close_leaf, leaf_closes};
 pub use cut::{Cut, CutFault};

@@ -5,33 +5,35 @@ ghost use Rattle.meeting_patterns.specs.Pattern.{patterns_of, ArePatterns};
 ghost use Rattle.packing_model.specs.Rows.{row_at};
 ghost use Rattle.packing_model.specs.Built.{BuildsModel, rows_of, packing, measured, AreBaseRowsOf};
 
+use crate::names::{name_table, weight_table};
 use crate::row::Row;
+use crate::rows::row_table;
 use duality::RowName;
-use meeting_patterns::PatternSet;
+use meeting_patterns::{PatternSet, clash, pattern_laws};
 use problem_core::{BuildFault, Problem};
 use std::alloc::Global;
-
-/// The most base rows that a model holds.
-pub const MOST_ROWS: u64 = 4_000;
+use values::Items;
 
 /// A problem with its patterns and base rows. Contracts see it as the problem.
 #[derive(Drop)]
 pub struct Model {
     problem: Problem,
     patterns: PatternSet,
+    rows: Items<Row>,
+    weights: Vec<[i64; 6]>,
+    names: Vec<RowName>,
+    starts: Vec<usize>,
 }
 
 impl std::marker::Model for Model {
-    ghost use Rattle.std.specs.Prelude.{◌≡◌, None};
     ghost use Rattle.problem_core.specs.Facts.{Facts};
-    ghost use Rattle.meeting_patterns.specs.Pattern.{patterns_of};
-    ghost use Rattle.packing_model.specs.Built.{model_limit};
+    ghost use Rattle.packing_model.specs.Keys.{IsModel};
 
     ghost Value = { Facts };
 
     ghost view = { λ m. m.problem };
 
-    ghost invariant = { λ m. (m.patterns ≡ patterns_of m.problem) × (model_limit m.problem ≡ None) };
+    ghost invariant = { λ m. IsModel m.problem m.patterns m.rows m.weights.items m.names.items m.starts.items };
 }
 
 impl Model {
@@ -41,10 +43,19 @@ impl Model {
     pub fn build(alloc: Global, p: Problem) -> Result<Model, BuildFault>
         ensures { BuildsModel p result }
     {
+        p.laws();
+        pattern_laws();
         let patterns = PatternSet::all(alloc, &p)?;
+        let table = row_table(alloc, &p, &patterns)?;
+        let weights = weight_table(alloc, &p, &patterns)?;
+        let named = name_table(alloc, &p, &patterns, &table.numbers)?;
         Ok(Model {
             problem: p,
             patterns,
+            rows: table.rows,
+            weights,
+            names: named.names,
+            starts: named.starts,
         })
     }
 
@@ -61,6 +72,7 @@ impl Model {
         ensures are { ArePatterns self.now result.now }
         ensures few { length result.now ≤ 200000 }
     {
+        pattern_laws();
         &self.patterns
     }
 
@@ -69,7 +81,7 @@ impl Model {
         ensures count { result ≡ length (rows_of self.now) }
         ensures few { length (rows_of self.now) ≤ 4000 }
     {
-        0
+        self.rows.len() as u32
     }
 
     /// The base row of the number.
@@ -77,7 +89,7 @@ impl Model {
         requires { row < length (rows_of self.now) }
         ensures { result ≡ row_at (rows_of self.now) row }
     {
-        Row::Event(row)
+        self.rows.as_slice()[row as usize]
     }
 
     /// The base rows that the pattern stands in, each once.
@@ -85,7 +97,9 @@ impl Model {
         requires { pattern < length (patterns_of self.now) }
         ensures { AreBaseRowsOf (packing self.now) result.now pattern }
     {
-        &[]
+        let first = self.starts[pattern as usize];
+        let end = self.starts[pattern as usize + 1];
+        &self.names[first..end]
     }
 
     /// The weight of the pattern at the level, which is the number of a measure.
@@ -96,7 +110,7 @@ impl Model {
         ensures value { result ≡ (measured self.now).weight level pattern }
         ensures small { IsWithin (10 ^ 9) result }
     {
-        0
+        self.weights[pattern as usize][level as usize - 1]
     }
 
     /// Whether the two patterns clash.
@@ -105,11 +119,8 @@ impl Model {
         requires known_second { second < length (patterns_of self.now) }
         ensures { result ≡ (packing self.now).clash first second }
     {
-        meeting_patterns::clash(
-            &self.problem,
-            self.patterns.get(first),
-            self.patterns.get(second),
-        )
+        let patterns = self.patterns();
+        clash(&self.problem, patterns.get(first), patterns.get(second))
     }
 
     /// What holds of every model: its weights are small. It computes nothing.

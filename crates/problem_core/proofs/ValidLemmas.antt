@@ -7,7 +7,7 @@ use Rattle.std.proofs.lemmas.Bool.Decides.{nat_tests}
 use Rattle.problem_core.specs.Facts.{Event, run_of, event_at, no_event, course_of, share_slot}
 use Rattle.problem_core.specs.OfParts.{facts_of, event_of}
 use Rattle.problem_core.specs.Kept.{AreKept, AreFit, AreApart}
-use Rattle.problem_core.specs.Valid.{IsProblem}
+use Rattle.problem_core.specs.Valid.{IsRun, IsProblem}
 use Rattle.problem_core.specs.declared.parts.Parts.{Parts}
 use Rattle.problem_core.specs.declared.parts.EventPart.{EventPart}
 use Rattle.problem_core.proofs.RunLemmas.{runs_meet}
@@ -41,6 +41,14 @@ events_apart p fit e f l m same =
     ap₂ (λ (z w : Event). list_any (λ s. list_any (λ t. t == s) w.takes) z.takes) first second
     ∙ no_slot x y (fit.apart e f no_part l (omega (arith, whole))) courses
 
+event_run : (p : Parts) → AreFit p → (e : ℕ) → e < length p.events → IsRun p.slots (event_at (facts_of p) e).takes
+event_run p fit e l = record {
+  first = (get_or p.events e no_part).slot;
+  count = (get_or p.events e no_part).length;
+  are = ap (λ (z : Event). z.takes) (event_at-parts p e l);
+  within = (fit.events e no_part l).within;
+}
+
 pub IsProblem-kept : (p : Parts) → AreKept p → IsProblem (facts_of p)
 IsProblem-kept p kept =
     let whole = length-map p.events event_of in
@@ -53,5 +61,6 @@ IsProblem-kept p kept =
       known = λ e l.
           let there : e < length p.events = omega (arith, whole) in
           omega (arith, ap (λ (z : Event). z.course) (event_at-parts p e there), (kept.fit.events e no_part there).known);
+      runs = λ e l. event_run p kept.fit e (omega (arith, whole));
       apart = events_apart p kept.fit;
     }
