@@ -9,6 +9,7 @@ use Rattle.problem_core.specs.Courses.{is_of_course, place_of, meetings_of, even
 use Rattle.problem_core.specs.Below.{any_below_none, none_passes}
 use Rattle.problem_core.specs.SharedSlots.{share_slot-sym}
 use Rattle.meeting_patterns.specs.Pattern.{has_bit, within, IsPattern, IsBefore, ArePatterns, AreCoursesKnown, pattern_at, is_same, share_event, share_a_slot, clash, is_equal, agrees_at, chooses}
+use Rattle.meeting_patterns.specs.Made.{AreClashless}
 use Rattle.meeting_patterns.specs.declared.pattern.Pattern.{Pattern}
 use Rattle.meeting_patterns.proofs.BitLemmas.{same_bits, mask_of, mask_small, mask_bits, some_bit}
 use Rattle.problem_core.specs.Passing.{IsNth, nth_is, at_place}
@@ -224,3 +225,23 @@ one p s a i e courses are legal m l = elim (cases_Bool (holds_it p s a e i)) [
         and_right (not (entry a e == 0)) (holder p s a e == i) (ne_eqb (holder p s a e) i (λ same. true≢false (sym (ap (holds_it p s a e) (sym same) ∙ is.holds) ∙ missing)))
   ])
 ]
+
+-- what is chosen differs and doesn't clash
+pub chosen_clashless : (p : Facts) (s : List Pattern) (a list : List ℕ) → ArePatterns p s → IsLegal p a → list ≡ passing (λ i. chooses p a (pattern_at s i)) (length s) → AreClashless p s list
+chosen_clashless p s a list are legal same =
+    let test = λ (i : ℕ). chooses p a (pattern_at s i) in
+    let n = length s in
+    let whole : length list ≡ length (passing test n) = ap length same in
+    let nth : (j : ℕ) → j < length list → IsNth test n j (get_or list j 0) = λ j l. subst (λ xs. IsNth test n j (get_or xs j 0)) (sym same) (nth_is test n j (omega (arith, l, whole))) in
+    record {
+      known = λ j l. (nth j l).below;
+      differ = λ j k l m one.
+          let first = (nth j (omega (arith, l, m))).place in
+          let second = (nth k m).place in
+          let places : length (passing test (get_or list j 0)) ≡ length (passing test (get_or list k 0)) = ap (λ i. length (passing test i)) one in
+          omega (arith, l, first, second, places);
+      apart = λ j k l m.
+          let first = nth j (omega (arith, l, m)) in
+          let second = nth k m in
+          apart p a (pattern_at s (get_or list j 0)) (pattern_at s (get_or list k 0)) legal (are.each (get_or list j 0) first.below) (are.each (get_or list k 0) second.below) first.passes second.passes;
+    }

@@ -14,11 +14,13 @@ use std::alloc::Global;
 use values::Items;
 
 /// The patterns that a legal choice chooses, in rising order: those whose events are exactly the events of
-/// their course that the choice puts into their room. The set is that of the problem.
+/// their course that the choice puts into their room. The set is that of the problem. They differ and don't
+/// clash, so `to_choice` takes them.
 pub fn chosen(alloc: Global, p: &Problem, s: &PatternSet, a: &Choice) -> Result<Vec<u32>, Memory>
     requires patterns { ArePatterns p.now s.now }
     requires legal { IsLegal p.now a.now.entries }
-    ensures { IfOk result (λ v. v.items ≡ passing (λ i. chooses p.now a.now.entries (pattern_at s.now i)) (length s.now)) }
+    ensures chosen { IfOk result (λ v. v.items ≡ passing (λ i. chooses p.now a.now.entries (pattern_at s.now i)) (length s.now)) }
+    ensures clashless { IfOk result (λ v. AreClashless p.now s.now v.items) }
 {
     p.laws();
     let chosen = chosen_of(alloc, p, s, a.entries.as_slice())?;

@@ -26,3 +26,6 @@ pub use model::Model;
 pub use point::Point;
 pub use pool::{Pool, PoolFault};
 pub use row::Row;
+
+#[cfg(test)]
+mod tests;
