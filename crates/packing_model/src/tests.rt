@@ -5,6 +5,8 @@ use std::alloc::{AllocError, Global};
 use std::test::Fail;
 use values::Items;
 
+mod closing;
+
 /// Courses with meetings of one slot each, and rooms.
 #[derive(Clone, Copy)]
 struct Case<'a> {

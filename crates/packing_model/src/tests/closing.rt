@@ -14,7 +14,7 @@ fn smallest() -> Case<'static> {
     Case {
         students: &[10],
         needs: &[0],
-        meetings: &[&[0]],
+        meetings: &[(0, 0)],
         capacity: &[20],
         features: &[0],
         slots: 1,
@@ -439,19 +439,18 @@ fn week_leaves() -> [WeekLeaf; 6] {
     ]
 }
 
-/// The leaf over the rows of the meetings, which are the first base rows.
-fn week_leaf(alloc: Global, meetings: &[&[u32]], case: &WeekLeaf) -> Result<Leaf, AllocError> {
+/// The leaf over the rows of the meetings, given by course and slot, which are the first base rows.
+fn week_leaf(alloc: Global, meetings: &[(u32, u32)], case: &WeekLeaf) -> Result<Leaf, AllocError> {
     let mut terms = Items::new(alloc);
     let mut row: u32 = 0;
-    for course in 0..meetings.len().min(12) {
-        for place in 0..meetings[course].len() {
-            let more = if place == 0 { case.first } else { 0 };
-            terms.push(Term {
-                row: RowName::Base(row),
-                times: i128::from(case.each[course].wrapping_add(more)),
-            })?;
-            row = row.wrapping_add(1);
-        }
+    let mut last = u32::MAX;
+    for meeting in meetings {
+        terms.push(Term {
+            row: RowName::Base(row),
+            times: multiplier(case, meeting.0, last),
+        })?;
+        row = row.wrapping_add(1);
+        last = meeting.0;
     }
     if case.utilisation {
         terms.push(Term {
@@ -460,6 +459,15 @@ fn week_leaf(alloc: Global, meetings: &[&[u32]], case: &WeekLeaf) -> Result<Leaf
         })?;
     }
     Ok(Leaf { scale: 1, terms })
+}
+
+/// The multiplier of a meeting of the course, where the meeting before it is of the course `last`.
+fn multiplier(case: &WeekLeaf, course: u32, last: u32) -> i128 {
+    let more = if course == last { 0 } else { case.first };
+    match case.each.get(course as usize) {
+        Some(each) => i128::from(each.wrapping_add(more)),
+        None => 0,
+    }
 }
 
 #[test]
