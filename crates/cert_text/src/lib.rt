@@ -17,7 +17,7 @@ pub use laws::{line_laws, place_laws, text_laws};
 pub use line::read_line;
 pub use lines::{CertLine, Certificate, Tree};
 pub use place::{Place, step};
-pub use reader::{Reader, read_cert};
+pub use reader::{Reader, next_line, read_cert};
 pub use writer::write_cert;
 
 #[cfg(test)]

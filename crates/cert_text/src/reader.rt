@@ -45,8 +45,9 @@ fn fault_at(line: u64) -> TextFault
     })
 }
 
-// The first whole line without its line feed, and what follows it.
-fn next_line(bytes: &[u8]) -> Option<(&[u8], &[u8])>
+/// The first whole line of the bytes without its line feed, and what follows it; `None` where there is no
+/// line feed.
+pub fn next_line(bytes: &[u8]) -> Option<(&[u8], &[u8])>
     ensures { MatchOption result ((whole_lines bytes.now ≡ []) × (rest_of bytes.now ≡ bytes.now))
         (λ p. (whole_lines bytes.now ≡ p.0.now ∷ whole_lines p.1.now) × (rest_of bytes.now ≡ rest_of p.1.now) × (length p.1.now < length bytes.now)) }
 {

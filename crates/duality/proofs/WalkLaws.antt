@@ -7,7 +7,7 @@ use Rattle.duality.specs.Packing.{Packing, Weights, Stage}
 use Rattle.duality.specs.Tree.{can_branch, ends_at, proves_all}
 use Rattle.duality.specs.Walk.{Step, step_at, fixing_of, later, pending_of, turn, pending}
 
-later-turn : (path : List Step) → later path ≡ pending (turn path)
+pub later-turn : (path : List Step) → later path ≡ pending (turn path)
 later-turn [] = refl
 later-turn (b ∷ path) = go b.pattern b.inside (later-turn path)
   where

@@ -16,7 +16,7 @@ before_differs x y (inl course) = and_left ((x.course == y.course) && (x.room ==
 before_differs x y (inr (same, inl room)) = and_left ((x.course == y.course) && (x.room == y.room)) (x.mask == y.mask) (and_right (x.course == y.course) (x.room == y.room) (ne_eqb x.room y.room (λ e. absurd (omega arith))))
 before_differs x y (inr (same, inr (room, mask))) = and_right ((x.course == y.course) && (x.room == y.room)) (x.mask == y.mask) (ne_eqb x.mask y.mask (λ e. absurd (omega arith)))
 
-first_event : (test : ℕ → Bool) (n : ℕ) → any_below test n ≡ true → (e : ℕ) × (e < n) × (test e ≡ true)
+pub first_event : (test : ℕ → Bool) (n : ℕ) → any_below test n ≡ true → (e : ℕ) × (e < n) × (test e ≡ true)
 first_event test zero h = absurd (true≢false (sym h))
 first_event test (suc n) h = elim (cases_Bool (test n)) [
   | inl hit ↦ (n, omega arith, hit)
@@ -24,7 +24,7 @@ first_event test (suc n) h = elim (cases_Bool (test n)) [
 ]
 
 -- a slot that stands in both lists
-common : (ss ts : List ℕ) (t : ℕ) → list_any (λ s. s == t) ss ≡ true → list_any (λ s. s == t) ts ≡ true → list_any (λ s. list_any (λ u. u == s) ts) ss ≡ true
+pub common : (ss ts : List ℕ) (t : ℕ) → list_any (λ s. s == t) ss ≡ true → list_any (λ s. s == t) ts ≡ true → list_any (λ s. list_any (λ u. u == s) ts) ss ≡ true
 common [] ts t h k = absurd (true≢false (sym h))
 common (s ∷ ss) ts t h k = elim (cases_eq s t) [
   | inl same ↦ or_left (list_any (λ u. u == s) ts) _ (ap (λ v. list_any (λ u. u == v) ts) same ∙ k)
