@@ -52,3 +52,10 @@ all_take test [] (suc i) h = refl
 all_take test (x ∷ xs) (suc i) h =
     let parts = and_parts (test x) (list_all test xs) h in
     and_from (test x) (list_all test (take i xs)) parts.0 (all_take test xs i parts.1)
+
+pub known_below : (m n : ℕ) (ps : List ℕ) → m ≤ n → list_all (λ p. nat_lt p m) ps ≡ true → list_all (λ p. nat_lt p n) ps ≡ true
+known_below m n [] l h = refl
+known_below m n (p ∷ ps) l h =
+    let parts = and_parts (nat_lt p m) (list_all (λ q. nat_lt q m) ps) h in
+    let here = ltb-true p m parts.0 in
+    and_from (nat_lt p n) (list_all (λ q. nat_lt q n) ps) (lt-ltb p n (omega arith)) (known_below m n ps l parts.1)

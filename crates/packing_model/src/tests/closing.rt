@@ -363,15 +363,24 @@ fn leaf_of(alloc: Global, case: &SmallLeaf) -> Result<Leaf, AllocError> {
     })
 }
 
+/// The first of the leaves whose verdict is another.
+fn first_wrong(alloc: Global, model: &Model, cases: &[SmallLeaf]) -> Result<Option<usize>, Fail> {
+    for (i, case) in cases.iter().enumerate() {
+        let leaf = leaf_of(alloc, case)?;
+        let found = verdict(alloc, model, case.first, case.targets, case.best, &leaf)?;
+        if found != case.verdict {
+            return Ok(Some(i));
+        }
+    }
+    Ok(None)
+}
+
 #[test]
 fn judges_leaves_of_one_pattern(rt: HostRuntime) -> Result<(), Fail> {
     let alloc = rt.alloc();
     let model = model_of(alloc, &smallest())?;
-    for case in &small_leaves() {
-        let leaf = leaf_of(alloc, case)?;
-        let found = verdict(alloc, &model, case.first, case.targets, case.best, &leaf)?;
-        assert_eq!(rt; found, case.verdict);
-    }
+    let wrong = first_wrong(alloc, &model, small_leaves().as_slice())?;
+    assert_eq!(rt; wrong, None);
     Ok(())
 }
 
@@ -470,18 +479,26 @@ fn multiplier(case: &WeekLeaf, course: u32, last: u32) -> i128 {
     }
 }
 
+/// The first of the leaves that does not close, or closes against one less than its best value.
+fn first_loose(alloc: Global, model: &Model, cases: &[WeekLeaf]) -> Result<Option<usize>, Fail> {
+    for (i, case) in cases.iter().enumerate() {
+        let leaf = week_leaf(alloc, week().meetings, case)?;
+        let closed = verdict(alloc, model, First::Free, case.targets, case.best, &leaf)?;
+        let less = case.best.wrapping_sub(1);
+        let above = verdict(alloc, model, First::Free, case.targets, less, &leaf)?;
+        if closed != Ok(()) || above != Err(LeafFault::Bound) {
+            return Ok(Some(i));
+        }
+    }
+    Ok(None)
+}
+
 #[test]
 fn closes_the_levels_of_a_week(rt: HostRuntime) -> Result<(), Fail> {
     let alloc = rt.alloc();
     let model = model_of(alloc, &week())?;
-    for case in &week_leaves() {
-        let leaf = week_leaf(alloc, week().meetings, case)?;
-        let closed = verdict(alloc, &model, First::Free, case.targets, case.best, &leaf)?;
-        let less = case.best.wrapping_sub(1);
-        let above = verdict(alloc, &model, First::Free, case.targets, less, &leaf)?;
-        assert_eq!(rt; closed, Ok(()));
-        assert_eq!(rt; above, Err(LeafFault::Bound));
-    }
+    let loose = first_loose(alloc, &model, week_leaves().as_slice())?;
+    assert_eq!(rt; loose, None);
     Ok(())
 }
 
