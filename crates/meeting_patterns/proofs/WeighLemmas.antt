@@ -14,7 +14,7 @@ use Rattle.problem_core.specs.Courses.{passing, is_of_course, place_of, events_o
 use Rattle.problem_core.specs.Measures.{gain}
 use Rattle.problem_core.specs.Kept.{IsWithin}
 use Rattle.problem_core.specs.Passing.{any_passing}
-use Rattle.meeting_patterns.specs.Pattern.{has_bit, within, weight, share_event, share_a_slot, is_equal, agrees_at, chooses}
+use Rattle.meeting_patterns.specs.Pattern.{has_bit, within, weight, share_event, share_a_slot, clash, is_equal, agrees_at, chooses}
 use Rattle.meeting_patterns.specs.declared.pattern.Pattern.{Pattern}
 
 total-append : (f : ℕ → ℤ) (xs ys : List ℕ) → total f (xs ++ ys) ≡ total f xs +ℤ total f ys
@@ -115,3 +115,11 @@ choice_tells p a x events differs same h =
     ∙ any_passing (is_of_course p x.course) (λ e. not (is_equal (has_bit x.mask (place_of p e)) (entry a e == x.room + 1))) (length p.events)
     ∙ any_same (λ e. is_of_course p x.course e && not (is_equal (has_bit x.mask (place_of p e)) (entry a e == x.room + 1))) (λ e. not (agrees_at p a x e)) (length p.events)
     (λ e. not_implied (is_of_course p x.course e) (is_equal (has_bit x.mask (place_of p e)) (entry a e == x.room + 1))))
+
+clash_apart : (c r m e s : Bool) → c ≡ false → r ≡ true → e ≡ false → s ≡ (not (c && r && m) && (e || (r && (s || c))))
+clash_apart c r m e true hc hr he = rw (hc, hr, he) refl
+clash_apart c r m e false hc hr he = rw (hc, hr, he) refl
+
+-- patterns of two courses in one room clash where their events meet
+pub clash_in_room : (p : Facts) (x y : Pattern) → x.room ≡ y.room → x.course ≢ y.course → share_a_slot p x y ≡ clash p x y
+clash_in_room p x y room course = clash_apart (x.course == y.course) (x.room == y.room) (x.mask == y.mask) (share_event p x y) (share_a_slot p x y) (ne_eqb x.course y.course course) (eq-eqb x.room y.room room) (no_event p x y course)

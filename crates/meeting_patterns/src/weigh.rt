@@ -91,12 +91,13 @@ pub fn clash(p: &Problem, a: Pattern, b: Pattern) -> bool
     requires second { IsPattern p.now b }
     ensures { result ≡ clash p.now a b }
 {
-    let same_course = a.course == b.course;
-    let same_room = a.room == b.room;
-    let same = same_course && same_room && a.mask == b.mask;
-    let event = share_event(p, a, b);
-    let slot = share_a_slot(p, a, b);
-    !same && (event || (same_room && (slot || same_course)))
+    if a.room != b.room {
+        share_event(p, a, b)
+    } else if a.course == b.course {
+        a.mask != b.mask
+    } else {
+        share_a_slot(p, a, b)
+    }
 }
 
 /// Whether one event is in both patterns.
