@@ -1,8 +1,7 @@
 -- Features and their numbers.
 use Rattle.std.proofs.Common.{ℕ, ◌≡◌, ◌≤◌, ◌<◌, ◌+◌, ◌++◌, Bool, true, false, cond, not, List, [], ◌∷◌, length, refl, ap, sym, ◌∙◌, arith, suc}
-use Rattle.std.specs.Prelude.{◌||◌, nat_lt, Option, Some, None, Ok, Err, bytes_eq}
+use Rattle.std.specs.Prelude.{◌||◌, nat_lt, Some, None, Ok, Err, bytes_eq}
 use Rattle.std.specs.List.{list_any, position_or_len}
-use Rattle.std.proofs.lemmas.Bool.{not-true}
 use Rattle.std.proofs.lemmas.Bool.Decides.{nat_tests}
 use Rattle.input_core.specs.declared.faults.LineKind.TheVariants.{TooMany}
 use Rattle.ctt_reader.specs.Names.{place_of, has_name, with_name}

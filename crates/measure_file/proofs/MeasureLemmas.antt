@@ -1,8 +1,8 @@
 -- What the measures that are read keep to, line after line.
-use Rattle.std.proofs.Common.{ℕ, ℤ, pos, negsuc, ◌≡◌, ◌≤◌, ◌<◌, ◌+◌, ◌-◌, ◌++◌, Bool, true, false, cond, not, List, [], ◌∷◌, length, refl, ap, sym, ◌∙◌, arith, subst, suc, zero}
-use Rattle.std.specs.Prelude.{◌&&◌, ◌||◌, ◌==◌, nat_lt, nat_le, neg_ℤ, slice_get, slice_index, drop, Option, Some, None, Result, Ok, Err, bytes_eq}
+use Rattle.std.proofs.Common.{ℕ, ℤ, pos, ◌≡◌, ◌≤◌, ◌+◌, ◌-◌, ◌++◌, Bool, true, false, cond, not, List, [], ◌∷◌, length, refl, ap, sym, ◌∙◌, arith, subst, suc, zero}
+use Rattle.std.specs.Prelude.{◌&&◌, ◌==◌, nat_lt, nat_le, neg_ℤ, slice_get, slice_index, drop, Result, Ok, Err, bytes_eq}
 use Rattle.std.specs.List.{list_all, list_any, position_or_len}
-use Rattle.std.proofs.lemmas.Bool.{and_parts, not-true}
+use Rattle.std.proofs.lemmas.Bool.{and_parts}
 use Rattle.std.proofs.lemmas.Bool.Decides.{nat_tests}
 use Rattle.std.proofs.lemmas.List.{length-map, length-append}
 use Rattle.input_core.specs.Lines.{is_field}
@@ -10,7 +10,7 @@ use Rattle.input_core.specs.Rows.{unread, are_fields}
 use Rattle.input_core.specs.Fields.{◌>>=◌, in_line, number_in, number_below, name_of, or_fault}
 use Rattle.input_core.specs.declared.cursors.Row.{Row}
 use Rattle.input_core.specs.declared.faults.LineFault.{LineFault}
-use Rattle.input_core.specs.declared.faults.LineKind.TheVariants.{Keyword, Repeated, TooMany, Order, UnknownRoom}
+use Rattle.input_core.specs.declared.faults.LineKind.TheVariants.{Repeated, TooMany, Order, UnknownRoom}
 use Rattle.input_core.proofs.ChainLemmas.{chained, ok-same, if-ok, then-ok, unless-ok, in_line-ok, number_in-ok, number_below-ok, or_fault-ok, both}
 use Rattle.input_core.proofs.RowLemmas.{unread-are}
 use Rattle.ctt_reader.specs.Names.{course_at, room_at, place_of, has_name, with_name}
@@ -162,10 +162,10 @@ others same exchanged (x ∷ xs) y h =
 equal-sym : (a b : ℕ) → (a == b) ≡ (b == a)
 equal-sym a b = grind (arith, nat_tests)
 
-same_pair-sym : (x y : ℕ × ℕ × ℤ) → same_pair x y ≡ same_pair y x
+pub same_pair-sym : (x y : ℕ × ℕ × ℤ) → same_pair x y ≡ same_pair y x
 same_pair-sym x y = rw (equal-sym x.0 y.0, equal-sym x.1 y.1) refl
 
-same_course-sym : (x y : ℕ × ℕ) → same_course x y ≡ same_course y x
+pub same_course-sym : (x y : ℕ × ℕ) → same_course x y ≡ same_course y x
 same_course-sym x y = equal-sym x.0 y.0
 
 -- what is above the last threshold is above all

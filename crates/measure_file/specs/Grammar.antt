@@ -1,7 +1,7 @@
 -- Measures files: a first line that names the version, then lines of seven kinds in any order; and the first
 -- faulty line with its first fault. A line's first fault decides: its first field, the number of its fields, each
 -- field from left to right, and last what the lines before it say.
-use Rattle.std.specs.Prelude.{ℕ, ℤ, pos, neg_ℤ, ◌-◌, ◌==◌, ◌&&◌, Bool, true, if◌then◌else◌, nat_lt, nat_le, List, [], ◌∷◌, ◌++◌, length, drop, slice_get, slice_index, Option, Some, None, Result, Ok, Err, codes, bytes_eq}
+use Rattle.std.specs.Prelude.{ℕ, ℤ, pos, neg_ℤ, ◌-◌, ◌==◌, ◌&&◌, Bool, true, if◌then◌else◌, nat_lt, List, [], ◌∷◌, ◌++◌, length, drop, slice_get, slice_index, Option, Some, None, Result, Ok, Err, codes, bytes_eq}
 use Rattle.std.specs.List.{list_any, position_or_len}
 use Rattle.input_core.specs.Rows.{unread}
 use Rattle.input_core.specs.Fields.{◌>>=◌, in_line, name_of, number_in, number_below}

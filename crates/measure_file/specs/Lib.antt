@@ -3,4 +3,5 @@ pub mod Grammar
 pub mod Marks
 pub mod Steps
 pub mod Promised
+pub mod Writing
 pub mod Samples

@@ -1,5 +1,5 @@
 -- Small measures files, computed.
-use Rattle.std.specs.Prelude.{ℕ, pos, negsuc, ◌≡◌, [], ◌∷◌, Ok, Err, codes, refl}
+use Rattle.std.specs.Prelude.{pos, negsuc, ◌≡◌, [], ◌∷◌, Ok, Err, codes, refl}
 use Rattle.input_core.specs.declared.faults.LineKind.TheVariants.{Keyword, UnknownRoom, Repeated, Order, Version}
 use Rattle.ctt_reader.specs.declared.instance.Instance.{Instance}
 use Rattle.measure_file.specs.Grammar.{measures_of, no_measures}

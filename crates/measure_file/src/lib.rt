@@ -6,14 +6,17 @@ mod entries;
 mod faults;
 mod features;
 mod known;
+mod lines;
 mod listed;
 mod measures;
 mod once;
 mod reader;
 mod words;
+mod writer;
 
 pub use measures::Measures;
 pub use reader::read_measures;
+pub use writer::{is_numbered_as_written, write_measures};
 
 #[cfg(test)]
 mod tests;

@@ -184,3 +184,26 @@ fn reads_all_kinds_of_lines(rt: HostRuntime) -> Result<(), Fail> {
     assert_eq!(rt; none.features.len(), 0);
     Ok(())
 }
+
+#[test]
+fn writes_lines_by_kind(rt: HostRuntime) -> Result<(), Fail> {
+    let alloc = rt.alloc();
+    let i = read_ctt(alloc, SMALL)?;
+    let cases = [
+        (
+            b"measures 1\nrobust 0 7\nclosed R1 0 0".as_slice(),
+            b"measures 1\nclosed R1 0 0\nrobust 0 7\n".as_slice(),
+        ),
+        (b"measures 1".as_slice(), b"".as_slice()),
+        (
+            b"measures 2\nlength C2 3\nprefer C1 R2 -5\ndeny C2 R1\nhas R1 lab\nneed C1 lab".as_slice(),
+            b"measures 2\nhas R1 lab\nneed C1 lab\ndeny C2 R1\nprefer C1 R2 -5\nlength C2 3\n".as_slice(),
+        ),
+    ];
+    for (text, written) in &cases {
+        let m = read_measures(alloc, &i, *text)?;
+        assert!(rt; is_numbered_as_written(&m));
+        assert_eq!(rt; write_measures(alloc, &i, &m)?.as_slice(), *written);
+    }
+    Ok(())
+}

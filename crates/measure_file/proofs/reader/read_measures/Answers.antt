@@ -1,7 +1,7 @@
-use Rattle.std.proofs.Common.{◌≡◌, sym, ◌∙◌, ap}
+use Rattle.std.proofs.Common.{sym, ◌∙◌, ap}
 use Rattle.std.specs.Prelude.{Ok}
 use Rattle.input_core.specs.Rows.{unread}
-use Rattle.measure_file.specs.Grammar.{file_of, known_of}
+use Rattle.measure_file.specs.Grammar.{file_of}
 use Rattle.measure_file.proofs.MeasureLemmas.{measures_of-ok}
 use Rattle.measure_file.proofs.reader.read_measures.Goals as goal
 

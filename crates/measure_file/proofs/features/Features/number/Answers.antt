@@ -1,7 +1,6 @@
-use Rattle.std.proofs.Common.{◌≡◌, ◌≤◌, sym, ◌∙◌, ap, arith, length, Some, None, Ok}
+use Rattle.std.proofs.Common.{◌≡◌, ◌≤◌, sym, ◌∙◌, ap, arith, length, Some, Ok}
 use Rattle.ctt_reader.specs.Names.{place_of}
-use Rattle.measure_file.specs.Grammar.{feature_number}
-use Rattle.measure_file.proofs.FeatureLemmas.{found, missing, number-found, number-new, number-full}
+use Rattle.measure_file.proofs.FeatureLemmas.{found, missing, number-found, number-new}
 use Rattle.measure_file.proofs.features.Features.number.Goals as goal
 
 pub returns-in-Some : goal.returns-in-Some
