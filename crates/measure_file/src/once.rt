@@ -101,12 +101,12 @@ impl Lengths {
         requires { row.0 < 1000 }
         ensures { Adds (with_length self.old row) result self.new }
     {
-        let place = row.0 as usize;
-        if self.marks[place] {
+        let course = row.0 as usize;
+        if self.marks[course] {
             return Err(EntryFault::Kind(LineKind::Repeated));
         }
         self.rows.push(row)?;
-        self.marks[place] = true;
+        self.marks[course] = true;
         Ok(())
     }
 
