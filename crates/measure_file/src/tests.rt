@@ -21,9 +21,10 @@ fn names_the_first_faulty_line(rt: HostRuntime) -> Result<(), Fail> {
         (b"measures 3".as_slice(), 1, LineKind::Version),
         (b"measures 01".as_slice(), 1, LineKind::Version),
         (b"measures 1\nmeasures 1".as_slice(), 2, LineKind::Keyword),
+        (b"measures 1\nlength C1 3".as_slice(), 2, LineKind::Keyword),
         (
-            b"measures 1\n\nlength C1 3".as_slice(),
-            3,
+            b"\nmeasures 1\n\nfeature lab".as_slice(),
+            4,
             LineKind::Keyword,
         ),
         (b"measures 1\nhas R1".as_slice(), 2, LineKind::Fields),
@@ -97,7 +98,7 @@ fn names_the_first_faulty_line(rt: HostRuntime) -> Result<(), Fail> {
         ),
         (b"measures 1\nrobust 1001 0".as_slice(), 2, LineKind::Range),
         (
-            b"measures 1\nrobust 5 0\nrobust 5 1".as_slice(),
+            b"measures 1\nrobust 5 1\nrobust 5 2".as_slice(),
             3,
             LineKind::Order,
         ),
