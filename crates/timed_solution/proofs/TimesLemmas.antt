@@ -56,7 +56,7 @@ lectures-few (c ∷ courses) (suc k) h = lectures-few courses k (and_parts (is_c
 equal-sym : (a b : ℕ) → (a == b) ≡ (b == a)
 equal-sym a b = grind (arith, nat_tests)
 
-same-sym : (a b : Meeting) → same_time a b ≡ same_time b a
+pub same-sym : (a b : Meeting) → same_time a b ≡ same_time b a
 same-sym a b = rw (equal-sym a.course b.course, equal-sym a.day b.day, equal-sym a.period b.period) refl
 
 apart-more : (meetings : List Meeting) (m : Meeting) → are_apart meetings ≡ true → list_any (same_time m) meetings ≡ false → are_apart (meetings ++ m ∷ []) ≡ true
