@@ -1,0 +1,6 @@
+pub mod Faults
+pub mod Grammar
+pub mod Marks
+pub mod Steps
+pub mod Promised
+pub mod Samples
