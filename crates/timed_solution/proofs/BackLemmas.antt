@@ -82,7 +82,7 @@ meeting_in-back i m is h =
 
 -- ---- what stands before
 
-none-before : (m : Meeting) (before rest : List Meeting) → are_apart (before ++ m ∷ rest) ≡ true → list_any (same_time m) before ≡ false
+pub none-before : (m : Meeting) (before rest : List Meeting) → are_apart (before ++ m ∷ rest) ≡ true → list_any (same_time m) before ≡ false
 none-before m [] rest h = refl
 none-before m (x ∷ before) rest h =
     let p = and_parts (not (list_any (same_time x) (before ++ m ∷ rest))) (are_apart (before ++ m ∷ rest)) h in
@@ -98,7 +98,7 @@ equal-self c = eq-eqb c c refl
 not_full : (n k : ℕ) → k < n → nat_le n k ≡ false
 not_full n k h = grind (arith, nat_tests, h)
 
-held-first : (course : ℕ) (m : Meeting) (meetings : List Meeting) → held_of course (m ∷ meetings) ≡ cond (m.course == course) 1 0 + held_of course meetings
+pub held-first : (course : ℕ) (m : Meeting) (meetings : List Meeting) → held_of course (m ∷ meetings) ≡ cond (m.course == course) 1 0 + held_of course meetings
 held-first course m meetings = omega (arith, sum_by-append (λ (x : Meeting). cond (x.course == course) 1 0) (m ∷ []) meetings)
 
 held-before : (m : Meeting) (before rest : List Meeting) → held_of m.course before + 1 ≤ held_of m.course (before ++ m ∷ rest)
@@ -113,7 +113,7 @@ admitted-back i before rest m are =
     let room : held_of m.course before < lectures_of i.courses m.course = omega (arith, held-before m before rest, are.within m.course) in
     rw (none-before m before rest are.apart, not_full (lectures_of i.courses m.course) (held_of m.course before) room) refl
 
-here-passes : {A : Type 0} (test : A → Bool) (before : List A) (x : A) (rest : List A) → list_all test (before ++ x ∷ rest) ≡ true → test x ≡ true
+pub here-passes : {A : Type 0} (test : A → Bool) (before : List A) (x : A) (rest : List A) → list_all test (before ++ x ∷ rest) ≡ true → test x ≡ true
 here-passes test [] x rest h = (and_parts (test x) (list_all test rest) h).0
 here-passes test (y ∷ before) x rest h = here-passes test before x rest (and_parts (test y) (list_all test (before ++ x ∷ rest)) h).1
 

@@ -44,7 +44,7 @@ equal_of a b h = grind (arith, nat_tests, h)
 four : (a b c d : Bool) → a ≡ true → b ≡ true → c ≡ true → d ≡ true → (a && b && c && d) ≡ true
 four a b c d p q r s = rw (p, q, r, s) refl
 
-lectures-few : (courses : List Course) (k : ℕ) → list_all is_course courses ≡ true → lectures_of courses k ≤ 1000
+pub lectures-few : (courses : List Course) (k : ℕ) → list_all is_course courses ≡ true → lectures_of courses k ≤ 1000
 lectures-few [] k h = omega arith
 lectures-few (c ∷ courses) zero h =
     let p = and_parts (is_course c) _ h in
