@@ -15,8 +15,8 @@ pub use leaf::{Leaf, LeafFault, Node};
 pub use objective::{Objective, Weighed};
 pub use row::{FLOOR_LEVEL, RowName, Term};
 pub use sums::{
-    added, clique_worth, is_before, is_same, level_times, priced_cliques, priced_levels, product, times_of,
-    weigh, weight_of, worth_levels,
+    added, clique_worth, is_before, is_same, level_times, priced_cliques, priced_levels, product,
+    times_of, weigh, weight_of, worth_levels,
 };
 
 #[cfg(test)]

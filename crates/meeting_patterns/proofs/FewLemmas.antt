@@ -60,9 +60,9 @@ once p s list e i j are free l hi hj =
     absurd (omega arith)
 
 pub few_patterns : ((count events : ℕ) (has : ℕ → Bool) (within : ℕ → ℕ → Bool) (some : ℕ → ℕ)
-        → ((p : ℕ) → p < count → (some p < events) × (within p (some p) ≡ true))
-        → ((e p q : ℕ) → p < q → q < count → (has p && within p e) ≡ true → (has q && within q e) ≡ true → ⊥)
-        → value has (λ p. pos 1) count ≤ℤ pos events)
+    → ((p : ℕ) → p < count → (some p < events) × (within p (some p) ≡ true))
+    → ((e p q : ℕ) → p < q → q < count → (has p && within p e) ≡ true → (has q && within q e) ≡ true → ⊥)
+    → value has (λ p. pos 1) count ≤ℤ pos events)
     → (p : Facts) (s : List Pattern) (list : List ℕ) → ArePatterns p s → AreClashless p s list → length list ≤ length p.events
 few_patterns law p s list are free =
     let holds : ℕ → ℕ → Bool = λ i e. nat_lt e (length p.events) && within p (pattern_at s i) e in
