@@ -4,3 +4,7 @@ pub mod FileLemmas
 pub mod NameLemmas
 pub mod PromiseLemmas
 pub mod SectionLemmas
+pub mod FieldsBackLemmas
+pub mod LinesBackLemmas
+pub mod FileBackLemmas
+pub mod WriteLemmas

@@ -36,9 +36,13 @@ is_course c = is_name c.name && is_name c.teacher && nat_le c.lectures 1000 && n
 abbrev pub is_room : Room → Bool
 is_room r = is_name r.name && not (bytes_eq r.name (codes "-")) && nat_le r.capacity 1000000
 
+-- numbers of courses, where there are so many
+abbrev pub are_members : ℕ → List ℕ → Bool
+are_members courses members = list_all (λ m. nat_lt m courses) members
+
 -- of so many courses
 abbrev pub is_curriculum : ℕ → Curriculum → Bool
-is_curriculum courses c = is_name c.name && nat_le (length c.members) 100 && list_all (λ m. nat_lt m courses) c.members
+is_curriculum courses c = is_name c.name && nat_le (length c.members) 100 && are_members courses c.members
 
 abbrev pub is_constraint : ℕ → ℕ → ℕ → ℕ × ℕ × ℕ → Bool
 is_constraint courses days periods c = nat_lt c.0 courses && nat_lt c.1 days && nat_lt c.2 periods

@@ -1,7 +1,7 @@
 -- Lines and small instances, computed.
-use Rattle.std.specs.Prelude.{ℕ, ◌≡◌, List, [], ◌∷◌, ◌++◌, Ok, Err, codes, refl}
+use Rattle.std.specs.Prelude.{◌≡◌, [], ◌∷◌, Ok, Err, codes, refl}
 use Rattle.input_core.specs.Lines.{fields_of}
-use Rattle.input_core.specs.declared.faults.LineKind.TheVariants.{Keyword, Fields, Number, Range, Dash, Repeated, UnknownCourse, Count, Missing}
+use Rattle.input_core.specs.declared.faults.LineKind.TheVariants.{Keyword, Fields, Number, Range, Dash, UnknownCourse, Count, Missing}
 use Rattle.ctt_reader.specs.Entries.{course_of, room_of, curriculum_of, constraint_of, only_word}
 use Rattle.ctt_reader.specs.Grammar.{ctt_of}
 

@@ -1,4 +1,4 @@
-//! Instance files (.ctt) of curriculum-based course timetabling: what such a text means, and its reader.
+//! Instance files (.ctt) of curriculum-based course timetabling: what such a text means, its reader and its writer.
 #![tactic(auto)]
 
 mod entries;
@@ -6,10 +6,14 @@ mod header;
 mod instance;
 mod names;
 mod reader;
+mod writer;
 
 pub use instance::{Course, Curriculum, Instance, Room};
-pub use names::{Names, names_of_courses, names_of_rooms, read_course, read_room};
+pub use names::{
+    Names, course_name, names_of_courses, names_of_rooms, read_course, read_room, room_name,
+};
 pub use reader::read_ctt;
+pub use writer::write_ctt;
 
 #[cfg(test)]
 mod tests;

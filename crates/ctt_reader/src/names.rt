@@ -1,6 +1,7 @@
-ghost use Rattle.std.specs.Prelude.{◌≡◌, true, ◌<◌, ◌^◌, [], ◌++◌, ◌∷◌, length, not, IfOk, OnOk, OnErr};
+ghost use Rattle.std.specs.Prelude.{◌≡◌, true, ◌<◌, ◌≤◌, ◌^◌, [], ◌++◌, ◌∷◌, length, not, IfOk, OnOk, OnErr};
 ghost use Rattle.ctt_reader.specs.Entries.{course_names, room_names};
 ghost use Rattle.ctt_reader.specs.Promised.{are_different};
+ghost use Rattle.ctt_reader.specs.Naming.{course_name, room_name};
 ghost use Rattle.ctt_reader.specs.Names.{place_of, has_name, with_name, course_at, room_at};
 
 use crate::instance::Instance;
@@ -52,6 +53,28 @@ impl<'a> Names<'a> {
     {
         let place = self.set.get_index_of(name)?;
         Some(place as u32)
+    }
+}
+
+/// The name of the course with this number.
+pub fn course_name(instance: &Instance, course: u32) -> &str
+    requires { course < length instance.now.courses }
+    ensures { result.now ≡ course_name instance.now course }
+{
+    instance.courses.as_slice()[course as usize].name.as_str()
+}
+
+/// The name of the room of a choice's entry: 0 is no room, written `-`, else the room's number + 1.
+pub fn room_name(instance: &Instance, entry: u32) -> &str
+    requires { entry ≤ length instance.now.rooms }
+    ensures { result.now ≡ room_name instance.now entry }
+{
+    if entry == 0 {
+        "-"
+    } else {
+        instance.rooms.as_slice()[(entry - 1) as usize]
+            .name
+            .as_str()
     }
 }
 

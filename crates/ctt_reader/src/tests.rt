@@ -256,3 +256,18 @@ fn reads_a_week_with_tabs_and_returns(rt: HostRuntime) -> Result<(), Fail> {
     assert_eq!(rt; i.constraints.as_slice(), [(0, 4, 3), (7, 0, 0)].as_slice());
     Ok(())
 }
+
+/// An instance without a title, with curricula and constraints.
+const UNTITLED: &[u8] =
+    b"Name:\nCourses: 2\nRooms: 1\nDays: 2\nPeriods_per_day: 3\nCurricula: 2\nConstraints: 1\n\nCOURSES:\n- T1 1 1 10\nC2 T2 1000 0 1000000\n\nROOMS:\nR1 0\n\nCURRICULA:\nq 2 C2 -\nq 0\n\nUNAVAILABILITY_CONSTRAINTS:\nC2 1 2\n\nEND.\n";
+
+#[test]
+fn writes_what_it_read(rt: HostRuntime) -> Result<(), Fail> {
+    let alloc = rt.alloc();
+    for text in [SHORT, UNTITLED] {
+        let i = read_ctt(alloc, text)?;
+        let written = write_ctt(alloc, &i)?;
+        assert_eq!(rt; written.as_slice(), text);
+    }
+    Ok(())
+}

@@ -1,1 +1,7 @@
-mod WellFormedLaws
+pub mod TableLemmas
+pub mod CountLemmas
+pub mod LongLemmas
+pub mod TakenLemmas
+pub mod WellFormedLaws
+pub mod PlainLemmas
+pub mod GivenLemmas

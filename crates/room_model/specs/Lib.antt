@@ -1,2 +1,5 @@
 pub mod Names
 pub mod ProblemOf
+pub mod Long
+pub mod Calendar
+pub mod Taken

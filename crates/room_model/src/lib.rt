@@ -1,8 +1,16 @@
 //! From the values of the files to the problem of rooms, and from numbers back to names.
 #![tactic(auto)]
 
-mod names;
-mod plain;
+mod calendar;
+mod given;
+mod long;
+mod problem;
+mod sets;
 
-pub use names::{course_name, room_name};
-pub use plain::plain_problem;
+pub use ctt_reader::{course_name, room_name};
+pub use given::given_choice;
+pub use long::LongFault;
+pub use problem::{ProblemFault, to_problem};
+
+#[cfg(test)]
+mod tests;

@@ -1,2 +1,5 @@
 mod SolveLaws
+mod MeasureLaws
+mod FaultLaws
+mod WordLaws
 mod ExpectedLaws

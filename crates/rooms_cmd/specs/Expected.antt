@@ -4,6 +4,9 @@ use Rattle.numbers.specs.Below.{first_from}
 use Rattle.input_core.specs.declared.faults.LineFault.{LineFault}
 use Rattle.problem_core.specs.declared.limit.Limit.{Limit}
 use Rattle.problem_core.specs.Facts.{Facts}
+use Rattle.problem_core.specs.Choice.{IsLegal}
+use Rattle.problem_core.specs.Faults.{first_fault}
+use Rattle.problem_core.specs.declared.choice.RoomFault.{RoomFault}
 use Rattle.problem_core.specs.FirstChoice.{can_take}
 use Rattle.problem_core.specs.Limits.{limit_of}
 use Rattle.ctt_reader.specs.declared.instance.Instance.{Instance}
@@ -11,12 +14,17 @@ use Rattle.ctt_reader.specs.Grammar.{ctt_of}
 use Rattle.timed_solution.specs.declared.times.Times.{Times}
 use Rattle.timed_solution.specs.declared.times.Meeting.{Meeting}
 use Rattle.timed_solution.specs.Times.{times_of}
-use Rattle.room_model.specs.ProblemOf.{problem_of}
+use Rattle.room_model.specs.ProblemOf.{problem_of, given_rooms}
+use Rattle.room_model.specs.Long.{long_fault}
+use Rattle.room_model.specs.declared.long.LongFault.{LongFault}
+use Rattle.measure_file.specs.declared.measures.Measures.{Measures}
+use Rattle.measure_file.specs.Grammar.{measures_of}
+use Rattle.rooms_cmd.specs.Plain.{plain_problem}
 use Rattle.rooms_cmd.specs.Words.{Command, command}
-use Rattle.rooms_cmd.specs.Words.Command.{Solve}
-use Rattle.rooms_cmd.specs.Texts.{usage_text, read_fault_text, too_long_text, bad_line_text, over_limit_text, unplaced, unplaced_text, placed_text}
+use Rattle.rooms_cmd.specs.Words.Command.{Solve, Measure}
+use Rattle.rooms_cmd.specs.Texts.{usage_text, read_fault_text, too_long_text, bad_line_text, over_limit_text, unplaced, unplaced_text, placed_text, value_lines, room_fault_text, long_text}
 use Rattle.input_core.specs.Causes.{Rose}
-use Rattle.rooms_cmd.specs.Run.{limit, Held, Grew, GivesInstance, GivesTimes}
+use Rattle.rooms_cmd.specs.Run.{limit, Held, Grew, GivesInstance, GivesTimes, AreGiven, HasProblem}
 use Rattle.rooms_cmd.specs.declared.status.Status.{Status}
 use Rattle.rooms_cmd.specs.declared.status.Status.TheVariants as statuses
 
@@ -50,21 +58,46 @@ of_choice i t a = if unplaced a == 0 then printed statuses.Done (placed_text i t
 
 abbrev pub of_problem : Instance → Times → Option Limit → Printed
 of_problem i t (Some over) = printed statuses.BadInput (over_limit_text over)
-of_problem i t None = of_choice i t (first_choice_of (problem_of i t))
+of_problem i t None = of_choice i t (first_choice_of (plain_problem i t))
 
 abbrev pub times_with : List Meeting → Times
 times_with meetings = record { meetings = meetings }
 
 abbrev pub of_times : Held → List ℕ → Instance → Printed
-of_times held m i = of_file m (held m) (λ bytes. of_text m (times_of i bytes) (λ meetings. of_problem i (times_with meetings) (limit_of (problem_of i (times_with meetings)))))
+of_times held m i = of_file m (held m) (λ bytes. of_text m (times_of i bytes) (λ meetings. of_problem i (times_with meetings) (limit_of (plain_problem i (times_with meetings)))))
 
 -- the instance first, then the times, then the limits of their problem
 abbrev pub of_solve : Held → List ℕ → List ℕ → Printed
 of_solve held n m = of_file n (held n) (λ bytes. of_text n (ctt_of bytes) (of_times held m))
 
+-- the rooms given in the times, by their first fault
+abbrev pub of_fault : Instance → Times → Measures → Option RoomFault → Printed
+of_fault i t m None = printed statuses.Done (value_lines (problem_of i t m) (given_rooms t))
+of_fault i t m (Some fault) = printed statuses.No (room_fault_text i t fault)
+
+abbrev pub of_limit : Instance → Times → Measures → Option Limit → Printed
+of_limit i t m (Some over) = printed statuses.BadInput (over_limit_text over)
+of_limit i t m None = of_fault i t m (first_fault (problem_of i t m) (given_rooms t))
+
+-- meetings that are too long first, then the limits
+abbrev pub of_long : Instance → Times → Measures → Option LongFault → Printed
+of_long i t m (Some fault) = printed statuses.BadInput (long_text i t fault)
+of_long i t m None = of_limit i t m (limit_of (problem_of i t m))
+
+abbrev pub of_measures : Held → List ℕ → Instance → Times → Printed
+of_measures held l i t = of_file l (held l) (λ bytes. of_text l (measures_of i bytes) (λ m. of_long i t m (long_fault i t m)))
+
+abbrev pub of_given_times : Held → List ℕ → List ℕ → Instance → Printed
+of_given_times held k l i = of_file k (held k) (λ bytes. of_text k (times_of i bytes) (λ meetings. of_measures held l i (times_with meetings)))
+
+-- the instance first, then the times, then the measures, then their problem
+abbrev pub of_measure : Held → List ℕ → List ℕ → List ℕ → Printed
+of_measure held n k l = of_file n (held n) (λ bytes. of_text n (ctt_of bytes) (of_given_times held k l))
+
 abbrev pub of_command : Held → Option Command → Printed
 of_command held None = printed statuses.Usage usage_text
 of_command held (Some (Solve n m)) = of_solve held n m
+of_command held (Some (Measure n k l)) = of_measure held n k l
 
 abbrev pub expected : Held → List (List ℕ) → Printed
 expected held words = of_command held (command words)
@@ -88,4 +121,22 @@ pub record IsAccepted (tells : Bool) (held : Held) (n m : List ℕ) : Type 0 whe
   pub t : Times
   pub instance : GivesInstance tells (held n) i
   pub times : GivesTimes tells (held m) i t
-  pub few : limit_of (problem_of i t) ≡ None
+  pub few : limit_of (plain_problem i t) ≡ None
+
+-- the three files give a problem, and the given rooms are legal
+pub record IsLegalInput (tells : Bool) (held : Held) (n k l : List ℕ) : Type 0 where
+  pub i : Instance
+  pub t : Times
+  pub m : Measures
+  pub given : AreGiven tells held n k l i t m
+  pub problem : HasProblem i t m
+  pub legal : IsLegal (problem_of i t m) (given_rooms t)
+
+-- the three files give a problem, and the given rooms aren't legal
+pub record IsIllegalInput (tells : Bool) (held : Held) (n k l : List ℕ) : Type 0 where
+  pub i : Instance
+  pub t : Times
+  pub m : Measures
+  pub given : AreGiven tells held n k l i t m
+  pub problem : HasProblem i t m
+  pub illegal : IsLegal (problem_of i t m) (given_rooms t) → ⊥

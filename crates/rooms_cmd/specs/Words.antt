@@ -10,6 +10,8 @@ words_of words = map (λ w. string_bytes w) words
 pub data Command : Type 0 where
   -- the names of the instance and of the times
   Solve : List ℕ → List ℕ → Command
+  -- the names of the instance, of the times and of the measures
+  Measure : List ℕ → List ℕ → List ℕ → Command
 
 abbrev pub word : List (List ℕ) → ℕ → List ℕ
 word words k = slice_index_or words k []
@@ -21,5 +23,11 @@ is_word a b = pointwise (λ x y. x == y) a b
 abbrev pub is_solve : List (List ℕ) → Bool
 is_solve words = (length words == 3) && is_word (word words 0) (codes "solve")
 
+-- `measure` and three names
+abbrev pub is_measure : List (List ℕ) → Bool
+is_measure words = (length words == 4) && is_word (word words 0) (codes "measure")
+
 abbrev pub command : List (List ℕ) → Option Command
-command words = if is_solve words then Some (Solve (word words 1) (word words 2)) else None
+command words =
+    if is_solve words then Some (Solve (word words 1) (word words 2))
+    else (if is_measure words then Some (Measure (word words 1) (word words 2) (word words 3)) else None)

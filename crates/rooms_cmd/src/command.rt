@@ -1,29 +1,33 @@
 ghost use Rattle.std.specs.Prelude.{◌≡◌, ◌⊎◌, [], IfOk, IfErr, IsTrue, length};
 ghost use Rattle.input_core.specs.Shelf.{OnlyReads};
-ghost use Rattle.rooms_cmd.specs.Words.{words_of, is_solve};
-ghost use Rattle.rooms_cmd.specs.Run.{Explains, Stops, RunEnds, PrintEnds, Prints, Grew, IsSolve, IsDone, IsUnplaced, IsUsage, IsBadInput, IsReadFault, IsWriteFault};
-ghost use Rattle.rooms_cmd.specs.Expected.{IsQuiet, AnswersExpected, IsAccepted};
+ghost use Rattle.rooms_cmd.specs.Words.{words_of, is_solve, is_measure};
+ghost use Rattle.rooms_cmd.specs.Run.{Explains, Stops, RunEnds, PrintEnds, Prints, Grew, IsSolve, IsMeasure, IsDone, IsMeasured, IsIllegal, IsUnplaced, IsUsage, IsBadInput, IsRefusedOfThree, IsReadFault, IsUnreadOfThree, IsWriteFault};
+ghost use Rattle.rooms_cmd.specs.Expected.{IsQuiet, AnswersExpected, IsAccepted, IsLegalInput, IsIllegalInput};
 ghost use Rattle.rooms_cmd.specs.declared.status.Status.TheVariants as statuses;
 
 use crate::answer::{Answer, Stop};
+use crate::measure::measure;
 use crate::solve::solve;
 use crate::status::Status;
 use crate::texts::usage;
 use input_core::{PutFault, Shelf, Sink};
 use std::alloc::Global;
 
-/// Runs the command that the words give: `solve INSTANCE TIMES`. The words are those after the
-/// program's name. One text is made whole and written by one call.
+/// Runs the command that the words give: `solve INSTANCE TIMES` or `measure INSTANCE TIMES MEASURES`. The words are
+/// those after the program's name. One text is made whole and written by one call.
 pub fn run<S: Shelf, O: Sink>(alloc: Global, words: &[String], shelf: &mut S, out: &mut O) -> Status
-    ensures done { result ≡ statuses.Done → Prints (O.written out.old) (O.written out.new) (λ text. IsSolve (words_of words.now) (λ n m. IsDone (S.tells shelf.old) (S.held shelf.old) n m text)) }
-    ensures unplaced { result ≡ statuses.Unplaced → Prints (O.written out.old) (O.written out.new) (λ text. IsSolve (words_of words.now) (λ n m. IsUnplaced (S.tells shelf.old) (S.held shelf.old) n m text)) }
+    ensures done { result ≡ statuses.Done → Prints (O.written out.old) (O.written out.new) (λ text. IsSolve (words_of words.now) (λ n k. IsDone (S.tells shelf.old) (S.held shelf.old) n k text) ⊎ IsMeasure (words_of words.now) (λ n k l. IsMeasured (S.tells shelf.old) (S.held shelf.old) n k l text)) }
+    ensures no { result ≡ statuses.No → Prints (O.written out.old) (O.written out.new) (λ text. IsMeasure (words_of words.now) (λ n k l. IsIllegal (S.tells shelf.old) (S.held shelf.old) n k l text)) }
+    ensures unplaced { result ≡ statuses.Unplaced → Prints (O.written out.old) (O.written out.new) (λ text. IsSolve (words_of words.now) (λ n k. IsUnplaced (S.tells shelf.old) (S.held shelf.old) n k text)) }
     ensures usage { result ≡ statuses.Usage → Prints (O.written out.old) (O.written out.new) (IsUsage (words_of words.now)) }
-    ensures bad_input { result ≡ statuses.BadInput → Prints (O.written out.old) (O.written out.new) (λ text. IsSolve (words_of words.now) (λ n m. IsBadInput (S.tells shelf.old) (S.held shelf.old) n m text)) }
-    ensures read_fault { result ≡ statuses.ReadFault → Prints (O.written out.old) (O.written out.new) (λ text. IsSolve (words_of words.now) (λ n m. IsReadFault (S.tells shelf.old) (S.held shelf.old) n m (S.piece_faults shelf.old) (S.piece_faults shelf.new) text)) }
+    ensures bad_input { result ≡ statuses.BadInput → Prints (O.written out.old) (O.written out.new) (λ text. IsSolve (words_of words.now) (λ n k. IsBadInput (S.tells shelf.old) (S.held shelf.old) n k text) ⊎ IsMeasure (words_of words.now) (λ n k l. IsRefusedOfThree (S.tells shelf.old) (S.held shelf.old) n k l text)) }
+    ensures read_fault { result ≡ statuses.ReadFault → Prints (O.written out.old) (O.written out.new) (λ text. IsSolve (words_of words.now) (λ n k. IsReadFault (S.tells shelf.old) (S.held shelf.old) n k (S.piece_faults shelf.old) (S.piece_faults shelf.new) text) ⊎ IsMeasure (words_of words.now) (λ n k l. IsUnreadOfThree (S.tells shelf.old) (S.held shelf.old) n k l (S.piece_faults shelf.old) (S.piece_faults shelf.new) text)) }
     ensures write_fault { result ≡ statuses.WriteFault → IsWriteFault (S.tells shelf.old) (S.held shelf.old) (words_of words.now) (S.piece_faults shelf.old) (S.piece_faults shelf.new) (O.faults out.old) (O.faults out.new) (O.written out.old) (O.written out.new) }
     ensures memory { result ≡ statuses.Memory → Grew (O.written out.old) (O.written out.new) [] }
     ensures quiet { IsQuiet (S.tells shelf.old) (S.piece_faults shelf.old) (S.piece_faults shelf.new) (O.faults out.old) (O.faults out.new) → AnswersExpected (S.held shelf.old) (words_of words.now) (O.written out.old) (O.written out.new) result }
     ensures complete { IsQuiet (S.tells shelf.old) (S.piece_faults shelf.old) (S.piece_faults shelf.new) (O.faults out.old) (O.faults out.new) → IsSolve (words_of words.now) (IsAccepted (S.tells shelf.old) (S.held shelf.old)) → (result ≡ statuses.Done) ⊎ ((result ≡ statuses.Unplaced) ⊎ (result ≡ statuses.Memory)) }
+    ensures legal { IsQuiet (S.tells shelf.old) (S.piece_faults shelf.old) (S.piece_faults shelf.new) (O.faults out.old) (O.faults out.new) → IsMeasure (words_of words.now) (IsLegalInput (S.tells shelf.old) (S.held shelf.old)) → (result ≡ statuses.Done) ⊎ (result ≡ statuses.Memory) }
+    ensures illegal { IsQuiet (S.tells shelf.old) (S.piece_faults shelf.old) (S.piece_faults shelf.new) (O.faults out.old) (O.faults out.new) → IsMeasure (words_of words.now) (IsIllegalInput (S.tells shelf.old) (S.held shelf.old)) → (result ≡ statuses.No) ⊎ (result ≡ statuses.Memory) }
     ensures only { OnlyReads S.tells S.held S.piece_faults S.put_faults shelf.old shelf.new }
 {
     respond(alloc, words, shelf, out)
@@ -50,6 +54,15 @@ fn decide<S: Shelf>(alloc: Global, words: &[String], shelf: &mut S) -> Result<An
     if is_solve(words) {
         return solve(alloc, shelf, words[1].as_str(), words[2].as_str());
     }
+    if is_measure(words) {
+        return measure(
+            alloc,
+            shelf,
+            words[1].as_str(),
+            words[2].as_str(),
+            words[3].as_str(),
+        );
+    }
     Ok(Answer {
         status: Status::Usage,
         text: usage(alloc)?,
@@ -62,6 +75,14 @@ fn is_solve(words: &[String]) -> bool
     ensures three { IsTrue result → length words.now ≡ 3 }
 {
     words.len() == 3 && words[0].as_str() == "solve"
+}
+
+/// Whether the words are `measure` and three names.
+fn is_measure(words: &[String]) -> bool
+    ensures exact { result ≡ is_measure (words_of words.now) }
+    ensures four { IsTrue result → length words.now ≡ 4 }
+{
+    words.len() == 4 && words[0].as_str() == "measure"
 }
 
 /// Writes the text of the answer.

@@ -1,16 +1,20 @@
 ghost use Rattle.std.specs.Prelude.{◌≡◌, IfOk, IfErr};
 ghost use Rattle.input_core.specs.Reading.{IsWhole};
 ghost use Rattle.input_core.specs.Shelf.{OnlyReads};
-ghost use Rattle.rooms_cmd.specs.Run.{limit, GivesInstance, GivesTimes, IsFaultyInstance, IsFaultyTimes, NoFault, Stops, FileStops};
+ghost use Rattle.rooms_cmd.specs.Run.{limit, GivesInstance, GivesTimes, GivesMeasures, IsFaultyInstance, IsFaultyTimes, IsFaultyMeasures, NoFault, IsProblem, ProblemStops, Stops, FileStops};
 ghost use Rattle.rooms_cmd.specs.Texts.{bad_line_text};
 ghost use Rattle.ctt_reader.specs.Promised.{IsInstance};
 ghost use Rattle.timed_solution.specs.Times.{AreTimes};
+ghost use Rattle.measure_file.specs.Promised.{AreMeasures};
 
 use crate::answer::{Answer, Stop};
 use crate::status::Status;
-use crate::texts::{bad_line, read_fault, too_long};
+use crate::texts::{bad_line, long_fault, over_limit, read_fault, too_long};
 use ctt_reader::{Instance, read_ctt};
 use input_core::{INPUT_LIMIT, LineFault, ReadRefusal, Shelf, TextFault, read_all};
+use measure_file::{Measures, read_measures};
+use problem_core::Problem;
+use room_model::{ProblemFault, to_problem};
 use std::alloc::Global;
 use timed_solution::{Times, read_times};
 
@@ -47,6 +51,54 @@ pub fn load_times<S: Shelf>(
         Ok(times) => Ok(times),
         Err(TextFault::Line(fault)) => Err(faulty(alloc, name, fault)),
         Err(TextFault::Memory) => Err(Stop::Memory),
+    }
+}
+
+/// The measures that the file of this name holds.
+pub fn load_measures<S: Shelf>(
+    alloc: Global,
+    shelf: &mut S,
+    instance: &Instance,
+    name: &str,
+) -> Result<Measures, Stop>
+    requires { IsInstance instance.now }
+    ensures gives { IfOk result (GivesMeasures (S.tells shelf.old) (S.held shelf.old name.now) instance.now) }
+    ensures fits { IfOk result (λ m. AreMeasures instance.now m) }
+    ensures stops { IfErr result (Stops (FileStops (S.tells shelf.old) (S.held shelf.old name.now) (S.piece_faults shelf.old) (S.piece_faults shelf.new) (IsFaultyMeasures (S.tells shelf.old) (S.held shelf.old name.now) instance.now) name.now)) }
+    ensures only { OnlyReads S.tells S.held S.piece_faults S.put_faults shelf.old shelf.new }
+{
+    let bytes = load(alloc, shelf, name)?;
+    match read_measures(alloc, instance, bytes.as_slice()) {
+        Ok(measures) => Ok(measures),
+        Err(TextFault::Line(fault)) => Err(faulty(alloc, name, fault)),
+        Err(TextFault::Memory) => Err(Stop::Memory),
+    }
+}
+
+/// The problem of the values of the files.
+pub fn load_problem(
+    alloc: Global,
+    instance: &Instance,
+    times: &Times,
+    measures: &Measures,
+) -> Result<Problem, Stop>
+    requires instance { IsInstance instance.now }
+    requires times { AreTimes instance.now times.now.meetings }
+    requires measures { AreMeasures instance.now measures.now }
+    ensures problem { IfOk result (IsProblem instance.now times.now measures.now) }
+    ensures stops { IfErr result (Stops (ProblemStops instance.now times.now measures.now)) }
+{
+    match to_problem(alloc, instance, times, measures) {
+        Ok(problem) => Ok(problem),
+        Err(ProblemFault::Long(fault)) => Err(Stop::Answer(Answer {
+            status: Status::BadInput,
+            text: long_fault(alloc, instance, times, fault)?,
+        })),
+        Err(ProblemFault::Limit(limit)) => Err(Stop::Answer(Answer {
+            status: Status::BadInput,
+            text: over_limit(alloc, limit)?,
+        })),
+        Err(ProblemFault::Memory) => Err(Stop::Memory),
     }
 }
 

@@ -4,9 +4,11 @@
 mod answer;
 mod command;
 mod inputs;
+mod measure;
 mod solve;
 mod status;
 mod texts;
+mod values;
 
 pub use command::run;
 pub use status::Status;

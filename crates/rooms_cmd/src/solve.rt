@@ -1,21 +1,21 @@
 ghost use Rattle.std.specs.Prelude.{◌≡◌, IfOk, IfErr};
 ghost use Rattle.input_core.specs.Shelf.{OnlyReads};
-ghost use Rattle.problem_core.specs.Limits.{limit_of};
-ghost use Rattle.room_model.specs.ProblemOf.{problem_of};
-ghost use Rattle.rooms_cmd.specs.Run.{SolveExplains, Stops, IsProblem, OverLimitStops, PlaceExplains};
-ghost use Rattle.ctt_reader.specs.Promised.{IsInstance};
+ghost use Rattle.measure_file.specs.Grammar.{no_measures};
+ghost use Rattle.rooms_cmd.specs.Plain.{plain_problem};
+ghost use Rattle.rooms_cmd.specs.Run.{SolveExplains, Stops, PlaceExplains};
 ghost use Rattle.timed_solution.specs.Times.{AreTimes};
 
 use crate::answer::{Answer, Stop};
-use crate::inputs::{load_instance, load_times};
+use crate::inputs::{load_instance, load_problem, load_times};
 use crate::status::Status;
-use crate::texts::{count_unplaced, over_limit, placed, unplaced};
+use crate::texts::{count_unplaced, placed, unplaced};
 use ctt_reader::Instance;
 use input_core::Shelf;
-use problem_core::{BuildFault, Problem, first_choice, first_choice_laws};
-use room_model::plain_problem;
+use measure_file::Measures;
+use problem_core::{Problem, first_choice, first_choice_laws};
 use std::alloc::Global;
 use timed_solution::Times;
+use values::Items;
 
 /// Gives each meeting of the two files a room, by the first choice.
 pub fn solve<S: Shelf>(
@@ -30,24 +30,24 @@ pub fn solve<S: Shelf>(
 {
     let instance = load_instance(alloc, shelf, instance_name)?;
     let times = load_times(alloc, shelf, &instance, times_name)?;
-    let problem = load_problem(alloc, &instance, &times)?;
+    let measures = no_measures(alloc);
+    let problem = load_problem(alloc, &instance, &times, &measures)?;
     place(alloc, &instance, &times, &problem)
 }
 
-/// The problem of the two files.
-fn load_problem(alloc: Global, instance: &Instance, times: &Times) -> Result<Problem, Stop>
-    requires instance { IsInstance instance.now }
-    requires times { AreTimes instance.now times.now.meetings }
-    ensures problem { IfOk result (λ p. IsProblem instance.now times.now p) }
-    ensures stops { IfErr result (Stops (OverLimitStops instance.now times.now)) }
+/// What a file without fields lists.
+fn no_measures(alloc: Global) -> Measures
+    ensures { result ≡ no_measures }
 {
-    match plain_problem(alloc, instance, times) {
-        Ok(problem) => Ok(problem),
-        Err(BuildFault::Limit(limit)) => Err(Stop::Answer(Answer {
-            status: Status::BadInput,
-            text: over_limit(alloc, limit)?,
-        })),
-        Err(BuildFault::Memory) => Err(Stop::Memory),
+    Measures {
+        features: Items::new(alloc),
+        has: Items::new(alloc),
+        needs: Items::new(alloc),
+        denied: Items::new(alloc),
+        closed: Items::new(alloc),
+        prefer: Items::new(alloc),
+        robust: Items::new(alloc),
+        lengths: Items::new(alloc),
     }
 }
 
@@ -59,7 +59,7 @@ fn place(
     problem: &Problem,
 ) -> Result<Answer, Stop>
     requires times { AreTimes instance.now times.now.meetings }
-    requires same { problem.now ≡ problem_of instance.now times.now }
+    requires same { problem.now ≡ plain_problem instance.now times.now }
     ensures answers { IfOk result (λ a. PlaceExplains instance.now times.now a.text.items a.status) }
     ensures stops { IfErr result (Stops (λ text status. ⊥)) }
 {

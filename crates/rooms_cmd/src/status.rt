@@ -4,11 +4,14 @@ ghost use Rattle.rooms_cmd.specs.Numbers.{number_of};
 /// How a run ends.
 #[derive(Clone, Copy, Debug, PartialEq, Eq)]
 pub enum Status {
-    /// Every meeting has a room, and the rooms are printed.
+    /// Every meeting has a room, and the rooms are printed; or the given rooms are legal, and their values are
+    /// printed.
     Done,
+    /// The given rooms aren't legal.
+    No,
     /// The words are no command.
     Usage,
-    /// A file is too long or not of its form, or there are too many meetings.
+    /// A file is too long or not of its form, or the files give no problem.
     BadInput,
     /// A file was not read.
     ReadFault,
@@ -27,6 +30,7 @@ impl Status {
     {
         match self {
             Status::Done => 0,
+            Status::No => 1,
             Status::Usage => 2,
             Status::BadInput => 4,
             Status::ReadFault => 5,

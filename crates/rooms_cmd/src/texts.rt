@@ -1,23 +1,27 @@
-ghost use Rattle.std.specs.Prelude.{◌≡◌, ◌≢◌, ◌++◌, ◌<◌, ◌≤◌, ◌-◌, ℕ, List, pos, codes, decimal, length, slice_index, IfOk, OnOk};
+ghost use Rattle.std.specs.Prelude.{◌≡◌, ◌≢◌, ◌++◌, ◌<◌, ◌≤◌, ◌-◌, ℕ, List, pos, codes, decimal, length, slice_index, IfOk, OnOk, true};
 ghost use Rattle.std.specs.List.{list_all};
 ghost use Rattle.std.specs.Fmt.{signed_decimal};
 ghost use Rattle.problem_core.specs.Choice.{IsLegal};
 ghost use Rattle.problem_core.specs.Measures.{measure};
-ghost use Rattle.rooms_cmd.specs.Texts.{AreNamed, unplaced, usage_text, read_fault_text, too_long_text, bad_line_text, over_limit_text, limit_name, unplaced_text, meeting_line, meeting_lines, placed_text};
+ghost use Rattle.timed_solution.specs.Times.{is_meeting};
+ghost use Rattle.rooms_cmd.specs.Texts.{AreNamed, room_fault_within, long_fault_within, unplaced, usage_text, read_fault_text, too_long_text, bad_line_text, over_limit_text, limit_name, unplaced_text, meeting_line, meeting_lines, placed_words, given_words, timed_words, room_fault_text, long_text, meeting_at};
 
 use ctt_reader::Instance;
 use input_core::{LineFault, Memory, kind_text};
 use itoa::Buffer;
-use problem_core::{Choice, Limit, LimitKind, Problem};
-use room_model::{course_name, room_name};
+use problem_core::{Choice, Limit, LimitKind, Problem, RoomFault};
+use room_model::{LongFault, course_name, room_name};
 use std::alloc::{AllocError, Global};
-use timed_solution::Meeting;
+use timed_solution::{Meeting, Times};
 
 /// How the program is called.
 pub fn usage(alloc: Global) -> Result<Vec<u8>, Memory>
     ensures { IfOk result (λ v. v.items ≡ usage_text) }
 {
-    Ok(Vec::from_slice(alloc, b"usage:\nrooms solve INSTANCE TIMES\n")?)
+    Ok(Vec::from_slice(
+        alloc,
+        b"usage:\nrooms solve INSTANCE TIMES\nrooms measure INSTANCE TIMES MEASURES\n",
+    )?)
 }
 
 /// That the file of this name was not read.
@@ -135,6 +139,22 @@ fn push_meeting(
     requires room { entry ≤ length instance.now.rooms }
     ensures { OnOk result (text.new.items ≡ text.old.items ++ meeting_line instance.now meeting entry) }
 {
+    push_placed(text, instance, meeting, entry)?;
+    text.extend_from_slice(b"\n")?;
+    Ok(())
+}
+
+/// Adds the course of a meeting, the room of an entry, the day and the period.
+fn push_placed(
+    text: &mut Vec<u8>,
+    instance: &Instance,
+    meeting: Meeting,
+    entry: u32,
+) -> Result<(), AllocError>
+    requires course { meeting.course < length instance.now.courses }
+    requires room { entry ≤ length instance.now.rooms }
+    ensures { OnOk result (text.new.items ≡ text.old.items ++ placed_words instance.now meeting entry) }
+{
     let mut buffer = Buffer::new();
     text.extend_from_slice(course_name(instance, meeting.course).as_bytes())?;
     text.extend_from_slice(b" ")?;
@@ -143,6 +163,121 @@ fn push_meeting(
     text.extend_from_slice(buffer.format(meeting.day).as_bytes())?;
     text.extend_from_slice(b" ")?;
     text.extend_from_slice(buffer.format(meeting.period).as_bytes())?;
-    text.extend_from_slice(b"\n")?;
     Ok(())
+}
+
+/// Adds the course of a meeting, the day and the period.
+fn push_timed(text: &mut Vec<u8>, instance: &Instance, meeting: Meeting) -> Result<(), AllocError>
+    requires { meeting.course < length instance.now.courses }
+    ensures { OnOk result (text.new.items ≡ text.old.items ++ timed_words instance.now meeting) }
+{
+    let mut buffer = Buffer::new();
+    text.extend_from_slice(course_name(instance, meeting.course).as_bytes())?;
+    text.extend_from_slice(b" ")?;
+    text.extend_from_slice(buffer.format(meeting.day).as_bytes())?;
+    text.extend_from_slice(b" ")?;
+    text.extend_from_slice(buffer.format(meeting.period).as_bytes())?;
+    Ok(())
+}
+
+/// Why the given rooms aren't legal.
+pub fn room_fault(
+    alloc: Global,
+    instance: &Instance,
+    times: &Times,
+    fault: RoomFault,
+) -> Result<Vec<u8>, Memory>
+    requires meetings { list_all (is_meeting instance.now) times.now.meetings ≡ true }
+    requires known { room_fault_within (length times.now.meetings) fault ≡ true }
+    ensures { IfOk result (λ v. v.items ≡ room_fault_text instance.now times.now fault) }
+{
+    let meetings = times.meetings.as_slice();
+    match fault {
+        RoomFault::Unsuitable { event } => unsuitable(alloc, instance, meetings[event as usize]),
+        RoomFault::Clash { first, second } => clash(
+            alloc,
+            instance,
+            meetings[first as usize],
+            meetings[second as usize],
+        ),
+    }
+}
+
+fn unsuitable(alloc: Global, instance: &Instance, meeting: Meeting) -> Result<Vec<u8>, Memory>
+    requires { is_meeting instance.now meeting ≡ true }
+    ensures { IfOk result (λ v. v.items ≡ codes "not legal\nunsuitable " ++ given_words instance.now meeting ++ codes "\n") }
+{
+    let mut text = Vec::from_slice(alloc, b"not legal\nunsuitable ")?;
+    push_placed(&mut text, instance, meeting, meeting.room)?;
+    text.extend_from_slice(b"\n")?;
+    Ok(text)
+}
+
+fn clash(
+    alloc: Global,
+    instance: &Instance,
+    first: Meeting,
+    second: Meeting,
+) -> Result<Vec<u8>, Memory>
+    requires first { is_meeting instance.now first ≡ true }
+    requires second { is_meeting instance.now second ≡ true }
+    ensures { IfOk result (λ v. v.items ≡ codes "not legal\nclash " ++ given_words instance.now first ++ codes " " ++ given_words instance.now second ++ codes "\n") }
+{
+    let mut text = Vec::from_slice(alloc, b"not legal\nclash ")?;
+    push_placed(&mut text, instance, first, first.room)?;
+    text.extend_from_slice(b" ")?;
+    push_placed(&mut text, instance, second, second.room)?;
+    text.extend_from_slice(b"\n")?;
+    Ok(text)
+}
+
+/// Which meeting is too long for its day, or for an earlier one of its course.
+pub fn long_fault(
+    alloc: Global,
+    instance: &Instance,
+    times: &Times,
+    fault: LongFault,
+) -> Result<Vec<u8>, Memory>
+    requires meetings { list_all (is_meeting instance.now) times.now.meetings ≡ true }
+    requires known { long_fault_within (length times.now.meetings) fault ≡ true }
+    ensures { IfOk result (λ v. v.items ≡ long_text instance.now times.now fault) }
+{
+    let meetings = times.meetings.as_slice();
+    match fault {
+        LongFault::PastDay { event } => past_day(alloc, instance, meetings[event as usize]),
+        LongFault::Overlap { first, second } => overlap(
+            alloc,
+            instance,
+            meetings[first as usize],
+            meetings[second as usize],
+        ),
+    }
+}
+
+fn past_day(alloc: Global, instance: &Instance, meeting: Meeting) -> Result<Vec<u8>, Memory>
+    requires { is_meeting instance.now meeting ≡ true }
+    ensures { IfOk result (λ v. v.items ≡ codes "bad input: meeting " ++ timed_words instance.now meeting ++ codes " past the day\n") }
+{
+    let mut text = Vec::from_slice(alloc, b"bad input: meeting ")?;
+    push_timed(&mut text, instance, meeting)?;
+    text.extend_from_slice(b" past the day\n")?;
+    Ok(text)
+}
+
+fn overlap(
+    alloc: Global,
+    instance: &Instance,
+    first: Meeting,
+    second: Meeting,
+) -> Result<Vec<u8>, Memory>
+    requires first { is_meeting instance.now first ≡ true }
+    requires second { is_meeting instance.now second ≡ true }
+    ensures { IfOk result (λ v. v.items ≡ codes "bad input: meetings overlap " ++ timed_words instance.now first ++ codes " " ++ timed_words instance.now second ++ codes "\n") }
+{
+    let mut text = Vec::from_slice(alloc, b"bad input: meetings overlap ")?;
+    push_timed(&mut text, instance, first)?;
+    text.extend_from_slice(b" ")?;
+    push_timed(&mut text, instance, second)?;
+    text.extend_from_slice(b"\n")?;
+    Ok(text)
 }

@@ -10,6 +10,11 @@ joined [] = []
 joined (field ∷ []) = field
 joined (field ∷ other ∷ fields) = field ++ 32 ∷ joined (other ∷ fields)
 
+-- the fields, each behind a blank
+abbrev pub behind_blanks : List (List ℕ) → List ℕ
+behind_blanks [] = []
+behind_blanks (field ∷ fields) = 32 ∷ (field ++ behind_blanks fields)
+
 -- the lines, each with a line feed
 abbrev pub written : List (List (List ℕ)) → List ℕ
 written [] = []

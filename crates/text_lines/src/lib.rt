@@ -16,6 +16,12 @@ pub fn push_field(text: &mut Vec<u8>, field: &[u8]) -> Result<(), Memory>
     ensures { OnOk result (text.new.items ≡ text.old.items ++ (field.now ++ 32 ∷ [])) }
 {
     text.extend_from_slice(field)?;
+    push_blank(text)
+}
+
+fn push_blank(text: &mut Vec<u8>) -> Result<(), Memory>
+    ensures { OnOk result (text.new.items ≡ text.old.items ++ 32 ∷ []) }
+{
     text.extend_from_slice(b" ")?;
     Ok(())
 }
@@ -43,6 +49,23 @@ pub fn push_last_number(text: &mut Vec<u8>, number: u32) -> Result<(), Memory>
 {
     let mut buffer = Buffer::new();
     push_last(text, buffer.format(number).as_bytes())
+}
+
+/// Adds a blank and a field.
+pub fn push_next(text: &mut Vec<u8>, field: &[u8]) -> Result<(), Memory>
+    ensures { OnOk result (text.new.items ≡ text.old.items ++ 32 ∷ field.now) }
+{
+    push_blank(text)?;
+    text.extend_from_slice(field)?;
+    Ok(())
+}
+
+/// Adds a blank and a number as a field.
+pub fn push_next_number(text: &mut Vec<u8>, number: u32) -> Result<(), Memory>
+    ensures { OnOk result (text.new.items ≡ text.old.items ++ 32 ∷ decimal number) }
+{
+    let mut buffer = Buffer::new();
+    push_next(text, buffer.format(number).as_bytes())
 }
 
 /// What is read of a written text are the fields of its lines, and a number below a thousand million is read as

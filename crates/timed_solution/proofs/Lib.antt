@@ -1,2 +1,3 @@
 pub mod PlacedLemmas
 pub mod TimesLemmas
+pub mod BackLemmas

@@ -44,7 +44,7 @@ equal_of a b h = grind (arith, nat_tests, h)
 four : (a b c d : Bool) → a ≡ true → b ≡ true → c ≡ true → d ≡ true → (a && b && c && d) ≡ true
 four a b c d p q r s = rw (p, q, r, s) refl
 
-lectures-few : (courses : List Course) (k : ℕ) → list_all is_course courses ≡ true → lectures_of courses k ≤ 1000
+pub lectures-few : (courses : List Course) (k : ℕ) → list_all is_course courses ≡ true → lectures_of courses k ≤ 1000
 lectures-few [] k h = omega arith
 lectures-few (c ∷ courses) zero h =
     let p = and_parts (is_course c) _ h in
@@ -56,7 +56,7 @@ lectures-few (c ∷ courses) (suc k) h = lectures-few courses k (and_parts (is_c
 equal-sym : (a b : ℕ) → (a == b) ≡ (b == a)
 equal-sym a b = grind (arith, nat_tests)
 
-same-sym : (a b : Meeting) → same_time a b ≡ same_time b a
+pub same-sym : (a b : Meeting) → same_time a b ≡ same_time b a
 same-sym a b = rw (equal-sym a.course b.course, equal-sym a.day b.day, equal-sym a.period b.period) refl
 
 apart-more : (meetings : List Meeting) (m : Meeting) → are_apart meetings ≡ true → list_any (same_time m) meetings ≡ false → are_apart (meetings ++ m ∷ []) ≡ true

@@ -1,3 +1,4 @@
 pub mod Times
 pub mod Placed
+pub mod Writing
 pub mod Samples

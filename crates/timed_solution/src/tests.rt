@@ -1,7 +1,9 @@
 use super::*;
 use ctt_reader::read_ctt;
 use input_core::{LineFault, LineKind, TextFault};
+use problem_core::Choice;
 use std::test::Fail;
+use values::Items;
 
 /// One course with one lecture, one room, one slot.
 const ONE: &[u8] =
@@ -88,5 +90,16 @@ fn reads_three_and_four_fields(rt: HostRuntime) -> Result<(), Fail> {
     assert_eq!(rt; dash.meetings.as_slice(), [second].as_slice());
     let none = read_times(alloc, &i, b"")?;
     assert_eq!(rt; none.meetings.len(), 0);
+    Ok(())
+}
+
+#[test]
+fn writes_the_rooms_of_a_choice(rt: HostRuntime) -> Result<(), Fail> {
+    let alloc = rt.alloc();
+    let i = read_ctt(alloc, BOTH)?;
+    let t = read_times(alloc, &i, b"C1 0 1\nC1\tR1 0 0\r\n")?;
+    let entries = Items::from_slice(alloc, &[1, 0])?;
+    let text = write_solution(alloc, &i, &t, &Choice { entries })?;
+    assert_eq!(rt; text.as_slice(), b"C1 R1 0 1\nC1 - 0 0\n".as_slice());
     Ok(())
 }
