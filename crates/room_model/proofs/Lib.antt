@@ -5,3 +5,4 @@ pub mod TakenLemmas
 pub mod WellFormedLaws
 pub mod PlainLemmas
 pub mod GivenLemmas
+pub mod FeatureLaws

@@ -3,3 +3,4 @@ pub mod ProblemOf
 pub mod Long
 pub mod Calendar
 pub mod Taken
+pub mod Features

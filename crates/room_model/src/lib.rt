@@ -11,6 +11,7 @@ pub use ctt_reader::{course_name, room_name};
 pub use given::given_choice;
 pub use long::LongFault;
 pub use problem::{ProblemFault, to_problem};
+pub use sets::feature_laws;
 
 #[cfg(test)]
 mod tests;

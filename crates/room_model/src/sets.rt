@@ -1,6 +1,7 @@
 ghost use Rattle.std.specs.Prelude.{◌≡◌, ◌≤◌, ℕ, IfOk, length, true};
 ghost use Rattle.std.specs.List.{list_all};
 ghost use Rattle.measure_file.specs.Promised.{is_pair};
+ghost use Rattle.room_model.specs.Features.{FeaturesAreListed};
 ghost use Rattle.room_model.specs.ProblemOf.{sets_of};
 
 use std::alloc::{AllocError, Global};
@@ -25,3 +26,9 @@ pub fn feature_sets(
     }
     Ok(Items::from(sets))
 }
+
+/// In a problem of files a room has the features that a course needs exactly where each of them is listed for the
+/// room. It computes nothing.
+pub fn feature_laws()
+    ensures { FeaturesAreListed }
+{}

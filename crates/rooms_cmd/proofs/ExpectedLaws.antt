@@ -17,8 +17,7 @@ use Rattle.problem_core.specs.FirstChoice.{IsFirstChoice, can_take}
 use Rattle.ctt_reader.specs.declared.instance.Instance.{Instance}
 use Rattle.timed_solution.specs.declared.times.Times.{Times}
 use Rattle.measure_file.specs.declared.measures.Measures.{Measures}
-use Rattle.measure_file.specs.Grammar.{measures_of}
-use Rattle.room_model.specs.ProblemOf.{problem_of, given_rooms, event_part}
+use Rattle.room_model.specs.ProblemOf.{problem_of, given_rooms}
 use Rattle.room_model.specs.Long.{long_fault}
 use Rattle.rooms_cmd.specs.Plain.{plain_problem}
 use Rattle.timed_solution.proofs.TimesLemmas.{times_of-ok}
@@ -26,7 +25,7 @@ use Rattle.room_model.proofs.GivenLemmas.{given_choice_of}
 use Rattle.rooms_cmd.specs.Words.{command}
 use Rattle.rooms_cmd.specs.Words.Command.{Solve, Measure}
 use Rattle.rooms_cmd.specs.Texts.{read_fault_text, too_long_text, unplaced}
-use Rattle.rooms_cmd.specs.Run.{limit, Held, GivesInstance, GivesTimes, GivesMeasures, AreGiven, HasProblem, IsNoProblem, IsUnread, IsLong, IsRefused, IsFaultyInstance, IsFaultyTimes, IsFaultyMeasures, IsPlaced, SolveExplains, MeasureExplains, Explains, Prints, Grew, RunEnds, Stops, IsSolve, IsMeasure}
+use Rattle.rooms_cmd.specs.Run.{limit, Held, GivesInstance, GivesTimes, AreGiven, HasProblem, IsNoProblem, IsUnread, IsLong, IsRefused, IsFaultyInstance, IsFaultyTimes, IsFaultyMeasures, IsPlaced, SolveExplains, MeasureExplains, Explains, Prints, Grew, RunEnds, Stops, IsSolve, IsMeasure}
 use Rattle.rooms_cmd.specs.Expected.{Printed, printed, choice_up_to, first_choice_of, of_file, of_text, of_choice, of_problem, times_with, of_times, of_solve, of_fault, of_limit, of_long, of_measures, of_given_times, of_measure, of_command, expected, IsQuiet, AnswersExpected, IsAccepted, IsLegalInput, IsIllegalInput}
 use Rattle.rooms_cmd.specs.declared.answer.Stop.{Stop}
 use Rattle.rooms_cmd.specs.declared.answer.Stop.TheVariants as stops

@@ -2,10 +2,10 @@
 use mir.Syntax.{w64}
 use mir.Val.{to_z, of_z}
 use Rattle.std.proofs.lemmas.Int.{ints, to_z-of_z}
-use Rattle.std.proofs.Common.{FitsSigned, ℕ, ℤ, ◌≡◌, ◌<◌, ◌≤◌, ◌+◌, ◌-◌, ◌++◌, Bool, true, false, cond, List, [], ◌∷◌, length, get_or, map, refl, ap, sym, ◌∙◌, arith, subst, zero, suc, inl, inr}
-use Rattle.std.specs.Prelude.{◌==◌, ◌&&◌, neg_ℤ, pos, nat_lt, Option, Some, None, position}
+use Rattle.std.proofs.Common.{FitsSigned, ℕ, ℤ, ◌≡◌, ◌<◌, ◌≤◌, ◌+◌, ◌-◌, ◌++◌, Bool, true, false, cond, List, [], ◌∷◌, length, get_or, map, refl, ap, sym, ◌∙◌, arith, subst, zero, suc}
+use Rattle.std.specs.Prelude.{◌==◌, neg_ℤ, pos, nat_lt, Option, Some, None, position}
 use Rattle.std.specs.List.{AllByRecursion, position_or_len}
-use Rattle.std.proofs.lemmas.Bool.{lt-ltb, and_from, cases_eq, eq-eqb, ne_eqb}
+use Rattle.std.proofs.lemmas.Bool.{lt-ltb, and_from, ne_eqb}
 use Rattle.std.proofs.lemmas.Bool.Decides.{nat_tests}
 use Rattle.std.proofs.lemmas.List.{length-map, length-append}
 use Rattle.numbers.specs.Below.{first_from, first_from_finds}

@@ -25,7 +25,7 @@ use Rattle.room_model.specs.declared.long.LongFault.{LongFault}
 use Rattle.room_model.proofs.PlainLemmas.{never_long}
 use Rattle.rooms_cmd.specs.Plain.{plain_problem}
 use Rattle.rooms_cmd.specs.Texts.{AreNamed, unplaced, placed_text, meeting_lines}
-use Rattle.rooms_cmd.specs.Run.{Held, GivesInstance, GivesTimes, IsFaultyTimes, FileStops, IsUnread, SolveExplains, IsRefused, ProblemStops, IsProblem, PlaceExplains, Stops}
+use Rattle.rooms_cmd.specs.Run.{Held, GivesInstance, GivesTimes, IsFaultyTimes, FileStops, IsUnread, SolveExplains, ProblemStops, PlaceExplains, Stops}
 use Rattle.rooms_cmd.specs.declared.answer.Stop.{Stop}
 use Rattle.rooms_cmd.specs.declared.answer.Stop.TheVariants as stops
 use Rattle.rooms_cmd.specs.declared.status.Status.{Status}

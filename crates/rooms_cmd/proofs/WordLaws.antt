@@ -1,10 +1,10 @@
 -- What the words of a command are, by the tests of the code.
-use Rattle.std.proofs.Common.{ℕ, ◌≡◌, ◌<◌, ◌≤◌, ◌∙◌, ap, ap₂, sym, arith, Bool, true, false, cond, List, [], ◌∷◌, length, get_or, map, zero, suc, refl}
-use Rattle.std.specs.Prelude.{Option, Some, None, String}
+use Rattle.std.proofs.Common.{ℕ, ◌≡◌, ◌<◌, ◌∙◌, ap, ap₂, sym, arith, Bool, true, false, cond, List, [], length, get_or}
+use Rattle.std.specs.Prelude.{Some, None, String}
 use Rattle.std.specs.String.{string_bytes}
 use Rattle.std.specs.declared.alloc.Global.{Global}
 use Rattle.ctt_reader.proofs.FieldsBackLemmas.{named-at}
-use Rattle.rooms_cmd.specs.Words.{Command, command, word, words_of, is_solve, is_measure}
+use Rattle.rooms_cmd.specs.Words.{command, word, words_of, is_solve, is_measure}
 use Rattle.rooms_cmd.specs.Words.Command.{Solve, Measure}
 
 word_is : (words : List (String Global)) (k : ℕ) (a : String Global) (n : List ℕ) → k < length words → a ≡ get_or words k a → n ≡ string_bytes a → word (words_of words) k ≡ n

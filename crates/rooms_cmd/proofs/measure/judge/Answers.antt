@@ -1,6 +1,5 @@
-use Rattle.std.proofs.Common.{◌≡◌, ◌∙◌, ap, ap₂, sym, subst, List, ℕ}
+use Rattle.std.proofs.Common.{◌∙◌, ap₂, sym, subst}
 use Rattle.problem_core.specs.Choice.{IsChoice, IsLegal}
-use Rattle.problem_core.specs.Facts.{Facts}
 use Rattle.room_model.specs.ProblemOf.{problem_of, given_rooms}
 use Rattle.room_model.proofs.GivenLemmas.{given_choice_of}
 use Rattle.rooms_cmd.specs.Texts.{value_lines}

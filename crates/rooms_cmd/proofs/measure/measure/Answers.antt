@@ -2,7 +2,7 @@ use Rattle.std.proofs.Common.{rules, ◌∙◌, ◌≤◌, arith}
 use Rattle.std.proofs.lemmas.Result.{IfOk-weaker}
 use Rattle.input_core.proofs.ReadLemmas.{OnlyReads-then}
 use Rattle.rooms_cmd.proofs.SolveLaws.{gives_times_later}
-use Rattle.rooms_cmd.proofs.MeasureLaws.{instance_stopping, times_stopping, measures_stopping, problem_stopping, gives_measures_later, rooms_answer}
+use Rattle.rooms_cmd.proofs.MeasureLaws.{times_stopping, measures_stopping, problem_stopping, gives_measures_later, rooms_answer}
 use Rattle.rooms_cmd.proofs.measure.measure.Goals as goal
 
 pub returns-clause-answers : goal.returns-clause-answers

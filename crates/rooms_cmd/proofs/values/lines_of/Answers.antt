@@ -1,4 +1,4 @@
-use Rattle.std.proofs.Common.{ℤ, ◌≡◌, ◌<◌, ◌∙◌, ◌++◌, ap, get_or, length, arith, rules, subst, sym, List, ℕ}
+use Rattle.std.proofs.Common.{◌≡◌, ◌<◌, ◌∙◌, ◌++◌, ap, get_or, length, arith, rules, subst, sym, ℕ}
 use Rattle.std.specs.Prelude.{codes, neg_ℤ, pos}
 use Rattle.problem_core.specs.Kept.{IsWithin}
 use Rattle.rooms_cmd.specs.Texts.{value_line}
