@@ -50,12 +50,6 @@ long_certificate_text name = codes "bad input " ++ name ++ codes ": bytes 922337
 
 -- ---- the three files and their model
 
--- why the three files and their problem stop a command
-abbrev pub ThreeStop : Bool → Held → List ℕ → List ℕ → List ℕ → ℕ → ℕ → List ℕ → Status → Type 0
-ThreeStop tells held n k l before now text statuses.BadInput = IsRefusedOfThree tells held n k l text
-ThreeStop tells held n k l before now text statuses.ReadFault = IsUnreadOfThree tells held n k l before now text
-ThreeStop tells held n k l before now text status = ⊥
-
 -- the files give a problem whose model passes no limit
 pub record HasModel (i : Instance) (t : Times) (m : Measures) : Type 0 where
   pub problem : HasProblem i t m

@@ -12,7 +12,7 @@ use crate::answer::{Answer, Stop};
 use crate::inputs::load_three;
 use crate::status::Status;
 use crate::texts::{over_limit, read_fault};
-use crate::values::lines_of;
+use crate::value_lines::lines_of;
 use cert_checker::{Reason, Verdict, check as verdict_on};
 use input_core::{Memory, ReadRefusal, Shelf, read_all};
 use itoa::Buffer;
