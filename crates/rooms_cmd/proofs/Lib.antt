@@ -4,4 +4,4 @@ mod MeasureLaws
 mod FaultLaws
 mod WordLaws
 mod ExpectedLaws
-pub mod CheckLaws
+mod CheckLaws

@@ -69,6 +69,21 @@ pub record IsOverModel (tells : Bool) (held : Held) (n k l text : List ℕ) : Ty
   pub passed : model_limit (problem_of i t m) ≡ Some over
   pub is : text ≡ over_limit_text over
 
+-- what was built is the model of the problem of the three files
+pub record IsModelOf (tells : Bool) (held : Held) (n k l : List ℕ) (p : Facts) : Type 0 where
+  pub i : Instance
+  pub t : Times
+  pub m : Measures
+  pub given : AreGiven tells held n k l i t m
+  pub model : HasModel i t m
+  pub same : p ≡ problem_of i t m
+
+-- why there is no model of the three files, and what is printed
+abbrev pub FilesStop : Bool → Held → List ℕ → List ℕ → List ℕ → ℕ → ℕ → List ℕ → Status → Type 0
+FilesStop tells held n k l before now text statuses.BadInput = IsRefusedOfThree tells held n k l text ⊎ IsOverModel tells held n k l text
+FilesStop tells held n k l before now text statuses.ReadFault = IsUnreadOfThree tells held n k l before now text
+FilesStop tells held n k l before now text status = ⊥
+
 -- ---- the certificate
 
 -- why the certificate stops the command

@@ -6,7 +6,7 @@ ghost use Rattle.input_core.specs.Reading.{IsWhole};
 ghost use Rattle.problem_core.specs.Kept.{IsWithin};
 ghost use Rattle.packing_model.specs.Built.{model_limit};
 ghost use Rattle.rooms_cmd.specs.Run.{Stops};
-ghost use Rattle.rooms_cmd.specs.Checks.{CheckExplains, ModelStops, CertificateStops, VerdictExplains, certificate_limit, reason_text, verified_text, not_verified_text, long_certificate_text};
+ghost use Rattle.rooms_cmd.specs.Checks.{CheckExplains, IsModelOf, FilesStop, ModelStops, CertificateStops, VerdictExplains, certificate_limit, reason_text, verified_text, not_verified_text, long_certificate_text};
 
 use crate::answer::{Answer, Stop};
 use crate::inputs::load_three;
@@ -36,14 +36,29 @@ pub fn check<S: Shelf>(
     ensures stops { IfErr result (Stops (CheckExplains (S.tells shelf.old) (S.held shelf.old) instance_name.now times_name.now measures_name.now certificate_name.now (S.piece_faults shelf.old) (S.piece_faults shelf.new))) }
     ensures only { OnlyReads S.tells S.held S.piece_faults S.put_faults shelf.old shelf.new }
 {
-    let loaded = load_three(alloc, shelf, instance_name, times_name, measures_name)?;
-    let model = load_model(alloc, loaded.problem)?;
+    let model = load_model(alloc, shelf, instance_name, times_name, measures_name)?;
     let bytes = load_certificate(alloc, shelf, certificate_name)?;
     judge(alloc, &model, bytes.as_slice())
 }
 
+/// The model of the problem of three files.
+fn load_model<S: Shelf>(
+    alloc: Global,
+    shelf: &mut S,
+    instance_name: &str,
+    times_name: &str,
+    measures_name: &str,
+) -> Result<Model, Stop>
+    ensures gives { IfOk result (IsModelOf (S.tells shelf.old) (S.held shelf.old) instance_name.now times_name.now measures_name.now) }
+    ensures stops { IfErr result (Stops (FilesStop (S.tells shelf.old) (S.held shelf.old) instance_name.now times_name.now measures_name.now (S.piece_faults shelf.old) (S.piece_faults shelf.new))) }
+    ensures only { OnlyReads S.tells S.held S.piece_faults S.put_faults shelf.old shelf.new }
+{
+    let loaded = load_three(alloc, shelf, instance_name, times_name, measures_name)?;
+    build_model(alloc, loaded.problem)
+}
+
 /// The model of the problem.
-fn load_model(alloc: Global, problem: Problem) -> Result<Model, Stop>
+fn build_model(alloc: Global, problem: Problem) -> Result<Model, Stop>
     ensures same { IfOk result (λ m. m ≡ problem) }
     ensures few { IfOk result (λ m. model_limit problem ≡ None) }
     ensures stops { IfErr result (Stops (ModelStops problem)) }
