@@ -123,13 +123,13 @@ within_at bound [] k d l h = absurd (omega arith)
 within_at bound (x ∷ xs) zero d l h = h.0
 within_at bound (x ∷ xs) (suc k) d l h = within_at bound xs k d (omega arith) h.1
 
-pub turned_back : (z : ℤ) → IsWithin (pos 192000000000) z → to_z w64 (of_z w64 z) ≡ z
+pub turned_back : (z : ℤ) → IsWithin (pos 1000000000000) z → to_z w64 (of_z w64 z) ≡ z
 turned_back z h = let fits : FitsSigned w64 z = omega (arith, ints, h.low, h.high) in to_z-of_z w64 z fits
 
-pub turned_line : (z r : ℤ) → IsWithin (pos 192000000000) z → r ≡ neg_ℤ (to_z w64 (of_z w64 z)) → to_z w64 (of_z w64 r) ≡ neg_ℤ z
+pub turned_line : (z r : ℤ) → IsWithin (pos 1000000000000) z → r ≡ neg_ℤ (to_z w64 (of_z w64 z)) → to_z w64 (of_z w64 r) ≡ neg_ℤ z
 turned_line z r h e =
     let is : r ≡ neg_ℤ z = e ∙ ap neg_ℤ (turned_back z h) in
-    let other : IsWithin (pos 192000000000) r = record { low = omega (arith, ints, is, h.high); high = omega (arith, ints, is, h.low) } in
+    let other : IsWithin (pos 1000000000000) r = record { low = omega (arith, ints, is, h.high); high = omega (arith, ints, is, h.low) } in
     turned_back r other ∙ is
 
 pub six_lines : (b0 b1 b2 b3 b4 b5 b6 l1 l2 l3 l4 l5 l6 : List ℕ) → b0 ≡ [] → b1 ≡ b0 ++ l1 → b2 ≡ b1 ++ l2 → b3 ≡ b2 ++ l3 → b4 ≡ b3 ++ l4 → b5 ≡ b4 ++ l5 → b6 ≡ b5 ++ l6 → b6 ≡ l1 ++ l2 ++ l3 ++ l4 ++ l5 ++ l6

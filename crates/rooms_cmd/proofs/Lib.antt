@@ -1,5 +1,7 @@
 mod SolveLaws
+mod ThreeLaws
 mod MeasureLaws
 mod FaultLaws
 mod WordLaws
 mod ExpectedLaws
+mod CheckLaws

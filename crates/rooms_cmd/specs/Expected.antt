@@ -21,10 +21,19 @@ use Rattle.measure_file.specs.declared.measures.Measures.{Measures}
 use Rattle.measure_file.specs.Grammar.{measures_of}
 use Rattle.rooms_cmd.specs.Plain.{plain_problem}
 use Rattle.rooms_cmd.specs.Words.{Command, command}
-use Rattle.rooms_cmd.specs.Words.Command.{Solve, Measure}
+use Rattle.rooms_cmd.specs.Words.Command.{Solve, Check, Measure}
 use Rattle.rooms_cmd.specs.Texts.{usage_text, read_fault_text, too_long_text, bad_line_text, over_limit_text, unplaced, unplaced_text, placed_text, value_lines, room_fault_text, long_text}
 use Rattle.input_core.specs.Causes.{Rose}
-use Rattle.rooms_cmd.specs.Run.{limit, Held, Grew, GivesInstance, GivesTimes, AreGiven, HasProblem}
+use Rattle.rooms_cmd.specs.Run.{limit, Held, GivesInstance, GivesTimes, AreGiven, HasProblem}
+use Rattle.rooms_cmd.specs.Ends.{Grew}
+use Rattle.packing_model.specs.Built.{model_limit}
+use Rattle.cert_text.specs.Text.{IsText, certificate_of}
+use Rattle.cert_text.specs.declared.lines.Certificate.{Certificate}
+use Rattle.cert_checker.specs.declared.verdict.Verdict.{Verdict}
+use Rattle.cert_checker.specs.declared.verdict.Verdict.TheVariants.{Verified, Not}
+use Rattle.cert_checker.specs.Verdicts.{IsValid, verdict_of}
+use Rattle.input_core.specs.Reading.{IsWhole}
+use Rattle.rooms_cmd.specs.Checks.{certificate_limit, HasModel, verified_text, not_verified_text, long_certificate_text}
 use Rattle.rooms_cmd.specs.declared.status.Status.{Status}
 use Rattle.rooms_cmd.specs.declared.status.Status.TheVariants as statuses
 
@@ -75,29 +84,55 @@ abbrev pub of_fault : Instance → Times → Measures → Option RoomFault → P
 of_fault i t m None = printed statuses.Done (value_lines (problem_of i t m) (given_rooms t))
 of_fault i t m (Some fault) = printed statuses.No (room_fault_text i t fault)
 
-abbrev pub of_limit : Instance → Times → Measures → Option Limit → Printed
-of_limit i t m (Some over) = printed statuses.BadInput (over_limit_text over)
-of_limit i t m None = of_fault i t m (first_fault (problem_of i t m) (given_rooms t))
+abbrev pub of_rooms : Instance → Times → Measures → Printed
+of_rooms i t m = of_fault i t m (first_fault (problem_of i t m) (given_rooms t))
+
+-- what is done with the values of three files that give a problem
+abbrev pub Next : Type 0
+Next = Instance → Times → Measures → Printed
+
+abbrev pub of_limit : Next → Instance → Times → Measures → Option Limit → Printed
+of_limit next i t m (Some over) = printed statuses.BadInput (over_limit_text over)
+of_limit next i t m None = next i t m
 
 -- meetings that are too long first, then the limits
-abbrev pub of_long : Instance → Times → Measures → Option LongFault → Printed
-of_long i t m (Some fault) = printed statuses.BadInput (long_text i t fault)
-of_long i t m None = of_limit i t m (limit_of (problem_of i t m))
+abbrev pub of_long : Next → Instance → Times → Measures → Option LongFault → Printed
+of_long next i t m (Some fault) = printed statuses.BadInput (long_text i t fault)
+of_long next i t m None = of_limit next i t m (limit_of (problem_of i t m))
 
-abbrev pub of_measures : Held → List ℕ → Instance → Times → Printed
-of_measures held l i t = of_file l (held l) (λ bytes. of_text l (measures_of i bytes) (λ m. of_long i t m (long_fault i t m)))
+abbrev pub of_measures : Next → Held → List ℕ → Instance → Times → Printed
+of_measures next held l i t = of_file l (held l) (λ bytes. of_text l (measures_of i bytes) (λ m. of_long next i t m (long_fault i t m)))
 
-abbrev pub of_given_times : Held → List ℕ → List ℕ → Instance → Printed
-of_given_times held k l i = of_file k (held k) (λ bytes. of_text k (times_of i bytes) (λ meetings. of_measures held l i (times_with meetings)))
+abbrev pub of_given_times : Next → Held → List ℕ → List ℕ → Instance → Printed
+of_given_times next held k l i = of_file k (held k) (λ bytes. of_text k (times_of i bytes) (λ meetings. of_measures next held l i (times_with meetings)))
 
 -- the instance first, then the times, then the measures, then their problem
-abbrev pub of_measure : Held → List ℕ → List ℕ → List ℕ → Printed
-of_measure held n k l = of_file n (held n) (λ bytes. of_text n (ctt_of bytes) (of_given_times held k l))
+abbrev pub of_three : Next → Held → List ℕ → List ℕ → List ℕ → Printed
+of_three next held n k l = of_file n (held n) (λ bytes. of_text n (ctt_of bytes) (of_given_times next held k l))
+
+abbrev pub of_verdict : Verdict → Printed
+of_verdict (Verified levels values) = printed statuses.Done (verified_text levels values)
+of_verdict (Not line reason) = printed statuses.No (not_verified_text line reason)
+
+-- a certificate is judged where it is there and not too long
+abbrev pub of_certificate : Facts → List ℕ → Option (List ℕ) → Printed
+of_certificate p c None = printed statuses.ReadFault (read_fault_text c)
+of_certificate p c (Some bytes) =
+    if nat_lt certificate_limit (length bytes) then printed statuses.BadInput (long_certificate_text c) else of_verdict (verdict_of p (certificate_of bytes))
+
+-- the limits of the model, then the certificate
+abbrev pub of_model : Held → List ℕ → Facts → Option Limit → Printed
+of_model held c p (Some over) = printed statuses.BadInput (over_limit_text over)
+of_model held c p None = of_certificate p c (held c)
+
+abbrev pub of_check : Held → List ℕ → Instance → Times → Measures → Printed
+of_check held c i t m = of_model held c (problem_of i t m) (model_limit (problem_of i t m))
 
 abbrev pub of_command : Held → Option Command → Printed
 of_command held None = printed statuses.Usage usage_text
 of_command held (Some (Solve n m)) = of_solve held n m
-of_command held (Some (Measure n k l)) = of_measure held n k l
+of_command held (Some (Check n k l c)) = of_three (of_check held c) held n k l
+of_command held (Some (Measure n k l)) = of_three of_rooms held n k l
 
 abbrev pub expected : Held → List (List ℕ) → Printed
 expected held words = of_command held (command words)
@@ -140,3 +175,17 @@ pub record IsIllegalInput (tells : Bool) (held : Held) (n k l : List ℕ) : Type
   pub given : AreGiven tells held n k l i t m
   pub problem : HasProblem i t m
   pub illegal : IsLegal (problem_of i t m) (given_rooms t) → ⊥
+
+-- the three files give a problem whose model passes no limit, and the fourth the text of a certificate that is
+-- valid for its finished levels
+pub record IsValidInput (tells : Bool) (held : Held) (n k l c : List ℕ) : Type 0 where
+  pub i : Instance
+  pub t : Times
+  pub m : Measures
+  pub given : AreGiven tells held n k l i t m
+  pub model : HasModel i t m
+  pub bytes : List ℕ
+  pub whole : IsWhole tells (held c) certificate_limit bytes
+  pub certificate : Certificate
+  pub text : IsText bytes certificate
+  pub valid : IsValid (problem_of i t m) (length certificate.levels) certificate

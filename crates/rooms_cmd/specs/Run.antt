@@ -21,9 +21,7 @@ use Rattle.room_model.specs.declared.long.LongFault.{LongFault}
 use Rattle.measure_file.specs.declared.measures.Measures.{Measures}
 use Rattle.measure_file.specs.Grammar.{measures_of}
 use Rattle.rooms_cmd.specs.Plain.{plain_problem}
-use Rattle.rooms_cmd.specs.Words.{command}
-use Rattle.rooms_cmd.specs.Words.Command.{Solve, Measure}
-use Rattle.rooms_cmd.specs.Texts.{usage_text, read_fault_text, too_long_text, bad_line_text, over_limit_text, unplaced, unplaced_text, placed_text, value_lines, room_fault_text, long_text}
+use Rattle.rooms_cmd.specs.Texts.{read_fault_text, too_long_text, bad_line_text, over_limit_text, unplaced, unplaced_text, placed_text, value_lines, room_fault_text, long_text}
 use Rattle.rooms_cmd.specs.declared.status.Status.{Status}
 use Rattle.rooms_cmd.specs.declared.status.Status.TheVariants as statuses
 use Rattle.rooms_cmd.specs.declared.answer.Stop.{Stop}
@@ -243,75 +241,18 @@ IsRefusedOfThree tells held n k l text =
     IsRefused tells (held n) (IsFaultyInstance tells (held n)) n text
     ⊎ (IsRefusedTimes tells held n k text ⊎ (IsRefusedMeasures tells held n k l text ⊎ IsRefusedProblem tells held n k l text))
 
+-- why the three files and their problem stop a command, and what is printed
+abbrev pub ThreeStop : Bool → Held → List ℕ → List ℕ → List ℕ → ℕ → ℕ → List ℕ → Status → Type 0
+ThreeStop tells held n k l before now text statuses.BadInput = IsRefusedOfThree tells held n k l text
+ThreeStop tells held n k l before now text statuses.ReadFault = IsUnreadOfThree tells held n k l before now text
+ThreeStop tells held n k l before now text status = ⊥
+
 abbrev pub MeasureExplains : Bool → Held → List ℕ → List ℕ → List ℕ → ℕ → ℕ → List ℕ → Status → Type 0
 MeasureExplains tells held n k l before now text statuses.Done = IsMeasured tells held n k l text
 MeasureExplains tells held n k l before now text statuses.No = IsIllegal tells held n k l text
 MeasureExplains tells held n k l before now text statuses.BadInput = IsRefusedOfThree tells held n k l text
 MeasureExplains tells held n k l before now text statuses.ReadFault = IsUnreadOfThree tells held n k l before now text
 MeasureExplains tells held n k l before now text status = ⊥
-
--- ---- what the words ask for
-
--- the words are `solve` and two names, of which something is said
-pub record IsSolve (words : List (List ℕ)) (said : List ℕ → List ℕ → Type 0) : Type 0 where
-  pub instance_name : List ℕ
-  pub times_name : List ℕ
-  pub is : command words ≡ Some (Solve instance_name times_name)
-  pub holds : said instance_name times_name
-
-pub record IsUsage (words : List (List ℕ)) (text : List ℕ) : Type 0 where
-  pub none : command words ≡ None
-  pub is : text ≡ usage_text
-
--- the words are `measure` and three names, of which something is said
-pub record IsMeasure (words : List (List ℕ)) (said : List ℕ → List ℕ → List ℕ → Type 0) : Type 0 where
-  pub instance_name : List ℕ
-  pub times_name : List ℕ
-  pub measures_name : List ℕ
-  pub is : command words ≡ Some (Measure instance_name times_name measures_name)
-  pub holds : said instance_name times_name measures_name
-
--- what is to be printed with each status, and why
-abbrev pub Explains : Bool → Held → List (List ℕ) → ℕ → ℕ → List ℕ → Status → Type 0
-Explains tells held words before now text statuses.Done =
-    IsSolve words (λ n k. IsDone tells held n k text) ⊎ IsMeasure words (λ n k l. IsMeasured tells held n k l text)
-Explains tells held words before now text statuses.No = IsMeasure words (λ n k l. IsIllegal tells held n k l text)
-Explains tells held words before now text statuses.Unplaced = IsSolve words (λ n k. IsUnplaced tells held n k text)
-Explains tells held words before now text statuses.Usage = IsUsage words text
-Explains tells held words before now text statuses.BadInput =
-    IsSolve words (λ n k. IsBadInput tells held n k text) ⊎ IsMeasure words (λ n k l. IsRefusedOfThree tells held n k l text)
-Explains tells held words before now text statuses.ReadFault =
-    IsSolve words (λ n k. IsReadFault tells held n k before now text) ⊎ IsMeasure words (λ n k l. IsUnreadOfThree tells held n k l before now text)
-Explains tells held words before now text status = ⊥
-
--- ---- what a run leaves
-
--- the sink's bytes grew by exactly this text, where it tells them
-abbrev pub Grew : Option (List ℕ) → Option (List ℕ) → List ℕ → Type 0
-Grew old new text = IfSome old (λ before. new ≡ Some (before ++ text))
-
--- the text of the answer was printed, and this is why
-pub record Prints (old new : Option (List ℕ)) (because : List ℕ → Type 0) : Type 0 where
-  pub text : List ℕ
-  pub why : because text
-  pub grew : Grew old new text
-
--- a front of the text that was to be printed came out, and the sink's count of faults rose
-pub record IsWriteFault (tells : Bool) (held : Held) (words : List (List ℕ)) (before now faults faults' : ℕ) (old new : Option (List ℕ)) : Type 0 where
-  pub status : Status
-  pub text : List ℕ
-  pub explained : Explains tells held words before now text status
-  pub rose : Rose faults faults'
-  pub size : ℕ
-  pub within : size ≤ length text
-  pub grew : Grew old new (take size text)
-
--- printing: the status stays where the write went well
-abbrev pub PrintEnds : ℕ → ℕ → Option (List ℕ) → Option (List ℕ) → Status → List ℕ → Status → Type 0
-PrintEnds faults faults' old new wanted text status =
-    ((status ≡ wanted) × Grew old new text)
-    ⊎ (((status ≡ statuses.WriteFault) × Rose faults faults' × ((size : ℕ) × (size ≤ length text) × Grew old new (take size text)))
-    ⊎ ((status ≡ statuses.Memory) × Grew old new []))
 
 abbrev pub IsProblem : Instance → Times → Measures → Facts → Type 0
 IsProblem i t m p = (p ≡ problem_of i t m) × HasProblem i t m
@@ -354,9 +295,3 @@ abbrev pub RoomsExplain : Instance → Times → Measures → List ℕ → Statu
 RoomsExplain i t m text statuses.Done = HasLegal i t m text
 RoomsExplain i t m text statuses.No = HasFault i t m text
 RoomsExplain i t m text status = ⊥
-
--- how a run ends, by its status
-abbrev pub RunEnds : Bool → Held → List (List ℕ) → ℕ → ℕ → ℕ → ℕ → Option (List ℕ) → Option (List ℕ) → Status → Type 0
-RunEnds tells held words before now faults faults' old new statuses.WriteFault = IsWriteFault tells held words before now faults faults' old new
-RunEnds tells held words before now faults faults' old new statuses.Memory = Grew old new []
-RunEnds tells held words before now faults faults' old new status = Prints old new (λ text. Explains tells held words before now text status)

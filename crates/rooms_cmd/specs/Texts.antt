@@ -20,7 +20,7 @@ use Rattle.room_model.specs.declared.long.LongFault.TheVariants.{PastDay, Overla
 use Rattle.rooms_cmd.specs.Plain.{plain_problem}
 
 abbrev pub usage_text : List ℕ
-usage_text = codes "usage:\nrooms solve INSTANCE TIMES\nrooms measure INSTANCE TIMES MEASURES\n"
+usage_text = codes "usage:\nrooms solve INSTANCE TIMES\nrooms check INSTANCE TIMES MEASURES CERT\nrooms measure INSTANCE TIMES MEASURES\n"
 
 abbrev pub read_fault_text : List ℕ → List ℕ
 read_fault_text name = codes "read fault " ++ name ++ codes "\n"

@@ -1,35 +1,44 @@
 ghost use Rattle.std.specs.Prelude.{◌≡◌, ◌⊎◌, [], IfOk, IfErr, IsTrue, length};
 ghost use Rattle.input_core.specs.Shelf.{OnlyReads};
-ghost use Rattle.rooms_cmd.specs.Words.{words_of, is_solve, is_measure};
-ghost use Rattle.rooms_cmd.specs.Run.{Explains, Stops, RunEnds, PrintEnds, Prints, Grew, IsSolve, IsMeasure, IsDone, IsMeasured, IsIllegal, IsUnplaced, IsUsage, IsBadInput, IsRefusedOfThree, IsReadFault, IsUnreadOfThree, IsWriteFault};
-ghost use Rattle.rooms_cmd.specs.Expected.{IsQuiet, AnswersExpected, IsAccepted, IsLegalInput, IsIllegalInput};
+ghost use Rattle.rooms_cmd.specs.Words.{words_of, is_solve, is_measure, is_check};
+ghost use Rattle.rooms_cmd.specs.Run.{Stops, IsDone, IsMeasured, IsIllegal, IsUnplaced, IsBadInput, IsRefusedOfThree, IsReadFault, IsUnreadOfThree};
+ghost use Rattle.rooms_cmd.specs.Ends.{Explains, RunEnds, PrintEnds, Prints, Grew, IsSolve, IsMeasure, IsUsage, IsWriteFault};
+ghost use Rattle.rooms_cmd.specs.Expected.{IsQuiet, AnswersExpected, IsAccepted, IsLegalInput, IsIllegalInput, IsValidInput};
+ghost use Rattle.rooms_cmd.specs.Checks.{IsCheck, IsVerified, IsNotVerified, IsRefusedOfFour, IsUnreadOfFour};
 ghost use Rattle.rooms_cmd.specs.declared.status.Status.TheVariants as statuses;
 
 use crate::answer::{Answer, Stop};
+use crate::check::check;
 use crate::measure::measure;
 use crate::solve::solve;
 use crate::status::Status;
 use crate::texts::usage;
+use cert_checker::certificate_laws;
+use cert_text::text_laws;
 use input_core::{PutFault, Shelf, Sink};
 use std::alloc::Global;
 
-/// Runs the command that the words give: `solve INSTANCE TIMES` or `measure INSTANCE TIMES MEASURES`. The words are
+/// Runs the command that the words give: `solve INSTANCE TIMES`, `check INSTANCE TIMES MEASURES CERT`
+/// or `measure INSTANCE TIMES MEASURES`. The words are
 /// those after the program's name. One text is made whole and written by one call.
 pub fn run<S: Shelf, O: Sink>(alloc: Global, words: &[String], shelf: &mut S, out: &mut O) -> Status
-    ensures done { result ≡ statuses.Done → Prints (O.written out.old) (O.written out.new) (λ text. IsSolve (words_of words.now) (λ n k. IsDone (S.tells shelf.old) (S.held shelf.old) n k text) ⊎ IsMeasure (words_of words.now) (λ n k l. IsMeasured (S.tells shelf.old) (S.held shelf.old) n k l text)) }
-    ensures no { result ≡ statuses.No → Prints (O.written out.old) (O.written out.new) (λ text. IsMeasure (words_of words.now) (λ n k l. IsIllegal (S.tells shelf.old) (S.held shelf.old) n k l text)) }
+    ensures done { result ≡ statuses.Done → Prints (O.written out.old) (O.written out.new) (λ text. IsSolve (words_of words.now) (λ n k. IsDone (S.tells shelf.old) (S.held shelf.old) n k text) ⊎ (IsMeasure (words_of words.now) (λ n k l. IsMeasured (S.tells shelf.old) (S.held shelf.old) n k l text) ⊎ IsCheck (words_of words.now) (λ n k l c. IsVerified (S.tells shelf.old) (S.held shelf.old) n k l c text))) }
+    ensures no { result ≡ statuses.No → Prints (O.written out.old) (O.written out.new) (λ text. IsMeasure (words_of words.now) (λ n k l. IsIllegal (S.tells shelf.old) (S.held shelf.old) n k l text) ⊎ IsCheck (words_of words.now) (λ n k l c. IsNotVerified (S.tells shelf.old) (S.held shelf.old) n k l c text)) }
     ensures unplaced { result ≡ statuses.Unplaced → Prints (O.written out.old) (O.written out.new) (λ text. IsSolve (words_of words.now) (λ n k. IsUnplaced (S.tells shelf.old) (S.held shelf.old) n k text)) }
     ensures usage { result ≡ statuses.Usage → Prints (O.written out.old) (O.written out.new) (IsUsage (words_of words.now)) }
-    ensures bad_input { result ≡ statuses.BadInput → Prints (O.written out.old) (O.written out.new) (λ text. IsSolve (words_of words.now) (λ n k. IsBadInput (S.tells shelf.old) (S.held shelf.old) n k text) ⊎ IsMeasure (words_of words.now) (λ n k l. IsRefusedOfThree (S.tells shelf.old) (S.held shelf.old) n k l text)) }
-    ensures read_fault { result ≡ statuses.ReadFault → Prints (O.written out.old) (O.written out.new) (λ text. IsSolve (words_of words.now) (λ n k. IsReadFault (S.tells shelf.old) (S.held shelf.old) n k (S.piece_faults shelf.old) (S.piece_faults shelf.new) text) ⊎ IsMeasure (words_of words.now) (λ n k l. IsUnreadOfThree (S.tells shelf.old) (S.held shelf.old) n k l (S.piece_faults shelf.old) (S.piece_faults shelf.new) text)) }
+    ensures bad_input { result ≡ statuses.BadInput → Prints (O.written out.old) (O.written out.new) (λ text. IsSolve (words_of words.now) (λ n k. IsBadInput (S.tells shelf.old) (S.held shelf.old) n k text) ⊎ (IsMeasure (words_of words.now) (λ n k l. IsRefusedOfThree (S.tells shelf.old) (S.held shelf.old) n k l text) ⊎ IsCheck (words_of words.now) (λ n k l c. IsRefusedOfFour (S.tells shelf.old) (S.held shelf.old) n k l c text))) }
+    ensures read_fault { result ≡ statuses.ReadFault → Prints (O.written out.old) (O.written out.new) (λ text. IsSolve (words_of words.now) (λ n k. IsReadFault (S.tells shelf.old) (S.held shelf.old) n k (S.piece_faults shelf.old) (S.piece_faults shelf.new) text) ⊎ (IsMeasure (words_of words.now) (λ n k l. IsUnreadOfThree (S.tells shelf.old) (S.held shelf.old) n k l (S.piece_faults shelf.old) (S.piece_faults shelf.new) text) ⊎ IsCheck (words_of words.now) (λ n k l c. IsUnreadOfFour (S.tells shelf.old) (S.held shelf.old) n k l c (S.piece_faults shelf.old) (S.piece_faults shelf.new) text))) }
     ensures write_fault { result ≡ statuses.WriteFault → IsWriteFault (S.tells shelf.old) (S.held shelf.old) (words_of words.now) (S.piece_faults shelf.old) (S.piece_faults shelf.new) (O.faults out.old) (O.faults out.new) (O.written out.old) (O.written out.new) }
     ensures memory { result ≡ statuses.Memory → Grew (O.written out.old) (O.written out.new) [] }
     ensures quiet { IsQuiet (S.tells shelf.old) (S.piece_faults shelf.old) (S.piece_faults shelf.new) (O.faults out.old) (O.faults out.new) → AnswersExpected (S.held shelf.old) (words_of words.now) (O.written out.old) (O.written out.new) result }
     ensures complete { IsQuiet (S.tells shelf.old) (S.piece_faults shelf.old) (S.piece_faults shelf.new) (O.faults out.old) (O.faults out.new) → IsSolve (words_of words.now) (IsAccepted (S.tells shelf.old) (S.held shelf.old)) → (result ≡ statuses.Done) ⊎ ((result ≡ statuses.Unplaced) ⊎ (result ≡ statuses.Memory)) }
     ensures legal { IsQuiet (S.tells shelf.old) (S.piece_faults shelf.old) (S.piece_faults shelf.new) (O.faults out.old) (O.faults out.new) → IsMeasure (words_of words.now) (IsLegalInput (S.tells shelf.old) (S.held shelf.old)) → (result ≡ statuses.Done) ⊎ (result ≡ statuses.Memory) }
     ensures illegal { IsQuiet (S.tells shelf.old) (S.piece_faults shelf.old) (S.piece_faults shelf.new) (O.faults out.old) (O.faults out.new) → IsMeasure (words_of words.now) (IsIllegalInput (S.tells shelf.old) (S.held shelf.old)) → (result ≡ statuses.No) ⊎ (result ≡ statuses.Memory) }
+    ensures valid { IsQuiet (S.tells shelf.old) (S.piece_faults shelf.old) (S.piece_faults shelf.new) (O.faults out.old) (O.faults out.new) → IsCheck (words_of words.now) (IsValidInput (S.tells shelf.old) (S.held shelf.old)) → (result ≡ statuses.Done) ⊎ (result ≡ statuses.Memory) }
     ensures only { OnlyReads S.tells S.held S.piece_faults S.put_faults shelf.old shelf.new }
 {
+    text_laws();
+    certificate_laws();
     respond(alloc, words, shelf, out)
 }
 
@@ -63,6 +72,16 @@ fn decide<S: Shelf>(alloc: Global, words: &[String], shelf: &mut S) -> Result<An
             words[3].as_str(),
         );
     }
+    if is_check(words) {
+        return check(
+            alloc,
+            shelf,
+            words[1].as_str(),
+            words[2].as_str(),
+            words[3].as_str(),
+            words[4].as_str(),
+        );
+    }
     Ok(Answer {
         status: Status::Usage,
         text: usage(alloc)?,
@@ -83,6 +102,14 @@ fn is_measure(words: &[String]) -> bool
     ensures four { IsTrue result → length words.now ≡ 4 }
 {
     words.len() == 4 && words[0].as_str() == "measure"
+}
+
+/// Whether the words are `check` and four names.
+fn is_check(words: &[String]) -> bool
+    ensures exact { result ≡ is_check (words_of words.now) }
+    ensures five { IsTrue result → length words.now ≡ 5 }
+{
+    words.len() == 5 && words[0].as_str() == "check"
 }
 
 /// Writes the text of the answer.

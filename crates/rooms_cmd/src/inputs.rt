@@ -1,7 +1,7 @@
 ghost use Rattle.std.specs.Prelude.{◌≡◌, IfOk, IfErr};
 ghost use Rattle.input_core.specs.Reading.{IsWhole};
 ghost use Rattle.input_core.specs.Shelf.{OnlyReads};
-ghost use Rattle.rooms_cmd.specs.Run.{limit, GivesInstance, GivesTimes, GivesMeasures, IsFaultyInstance, IsFaultyTimes, IsFaultyMeasures, NoFault, IsProblem, ProblemStops, Stops, FileStops};
+ghost use Rattle.rooms_cmd.specs.Run.{limit, AreGiven, ThreeStop, GivesInstance, GivesTimes, GivesMeasures, IsFaultyInstance, IsFaultyTimes, IsFaultyMeasures, NoFault, IsProblem, ProblemStops, Stops, FileStops};
 ghost use Rattle.rooms_cmd.specs.Texts.{bad_line_text};
 ghost use Rattle.ctt_reader.specs.Promised.{IsInstance};
 ghost use Rattle.timed_solution.specs.Times.{AreTimes};
@@ -133,4 +133,39 @@ fn faulty(alloc: Global, name: &str, fault: LineFault) -> Stop
         }),
         Err(_) => Stop::Memory,
     }
+}
+
+/// The values of three files, and their problem.
+#[derive(Drop)]
+pub struct Loaded {
+    pub instance: Instance,
+    pub times: Times,
+    pub measures: Measures,
+    pub problem: Problem,
+}
+
+/// The values that three files hold, one file after the other, and their problem.
+pub fn load_three<S: Shelf>(
+    alloc: Global,
+    shelf: &mut S,
+    instance_name: &str,
+    times_name: &str,
+    measures_name: &str,
+) -> Result<Loaded, Stop>
+    ensures given { IfOk result (λ l. AreGiven (S.tells shelf.old) (S.held shelf.old) instance_name.now times_name.now measures_name.now l.instance l.times l.measures) }
+    ensures fits { IfOk result (λ l. AreTimes l.instance l.times.meetings) }
+    ensures problem { IfOk result (λ l. IsProblem l.instance l.times l.measures l.problem) }
+    ensures stops { IfErr result (Stops (ThreeStop (S.tells shelf.old) (S.held shelf.old) instance_name.now times_name.now measures_name.now (S.piece_faults shelf.old) (S.piece_faults shelf.new))) }
+    ensures only { OnlyReads S.tells S.held S.piece_faults S.put_faults shelf.old shelf.new }
+{
+    let instance = load_instance(alloc, shelf, instance_name)?;
+    let times = load_times(alloc, shelf, &instance, times_name)?;
+    let measures = load_measures(alloc, shelf, &instance, measures_name)?;
+    let problem = load_problem(alloc, &instance, &times, &measures)?;
+    Ok(Loaded {
+        instance,
+        times,
+        measures,
+        problem,
+    })
 }

@@ -2,13 +2,14 @@
 #![tactic(auto)]
 
 mod answer;
+mod check;
 mod command;
 mod inputs;
 mod measure;
 mod solve;
 mod status;
 mod texts;
-mod values;
+mod value_lines;
 
 pub use command::run;
 pub use status::Status;

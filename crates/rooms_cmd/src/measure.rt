@@ -6,10 +6,10 @@ ghost use Rattle.ctt_reader.specs.Promised.{IsInstance};
 ghost use Rattle.timed_solution.specs.Times.{AreTimes};
 
 use crate::answer::{Answer, Stop};
-use crate::inputs::{load_instance, load_measures, load_problem, load_times};
+use crate::inputs::load_three;
 use crate::status::Status;
 use crate::texts::room_fault;
-use crate::values::value_lines;
+use crate::value_lines::value_lines;
 use ctt_reader::Instance;
 use input_core::Shelf;
 use measure_file::Measures;
@@ -30,11 +30,14 @@ pub fn measure<S: Shelf>(
     ensures stops { IfErr result (Stops (MeasureExplains (S.tells shelf.old) (S.held shelf.old) instance_name.now times_name.now measures_name.now (S.piece_faults shelf.old) (S.piece_faults shelf.new))) }
     ensures only { OnlyReads S.tells S.held S.piece_faults S.put_faults shelf.old shelf.new }
 {
-    let instance = load_instance(alloc, shelf, instance_name)?;
-    let times = load_times(alloc, shelf, &instance, times_name)?;
-    let measures = load_measures(alloc, shelf, &instance, measures_name)?;
-    let problem = load_problem(alloc, &instance, &times, &measures)?;
-    judge(alloc, &instance, &times, &measures, &problem)
+    let loaded = load_three(alloc, shelf, instance_name, times_name, measures_name)?;
+    judge(
+        alloc,
+        &loaded.instance,
+        &loaded.times,
+        &loaded.measures,
+        &loaded.problem,
+    )
 }
 
 /// The values of the given rooms, or their first fault.

@@ -4,6 +4,8 @@ use std::alloc::{AllocError, Global};
 use std::process::Abort;
 use std::test::Fail;
 
+mod checks;
+
 const SHORT: &str =
     "Name: x\nCourses: 1\nRooms: 1\nDays: 1\nPeriods_per_day: 1\nCurricula: 0\nConstraints: 0\n\nCOURSES:\nC1 T1 1 1 10\n\nROOMS:\nR1 20\n\nCURRICULA:\n\nUNAVAILABILITY_CONSTRAINTS:\n\nEND.\n";
 
@@ -209,7 +211,9 @@ fn answers_to_limits(rt: HostRuntime) -> Result<(), Fail> {
 #[test]
 fn answers_to_words(rt: HostRuntime) -> Result<(), Fail> {
     let alloc = rt.alloc();
-    let cases: [&[&str]; 7] = [
+    let cases: [&[&str]; 9] = [
+        &["check", "i", "t", "m"],
+        &["check", "i", "t", "m", "c", "c"],
         &["measure", "i", "t"],
         &["measure", "i", "t", "m", "c"],
         &[],
@@ -225,7 +229,7 @@ fn answers_to_words(rt: HostRuntime) -> Result<(), Fail> {
         let status = run(alloc, words.as_slice(), &mut shelf, &mut sink);
         assert_eq!(rt;
             sink.bytes(),
-            b"usage:\nrooms solve INSTANCE TIMES\nrooms measure INSTANCE TIMES MEASURES\n".as_slice()
+            b"usage:\nrooms solve INSTANCE TIMES\nrooms check INSTANCE TIMES MEASURES CERT\nrooms measure INSTANCE TIMES MEASURES\n".as_slice()
         );
         assert_eq!(rt; status, Status::Usage);
     }

@@ -20,7 +20,7 @@ pub fn usage(alloc: Global) -> Result<Vec<u8>, Memory>
 {
     Ok(Vec::from_slice(
         alloc,
-        b"usage:\nrooms solve INSTANCE TIMES\nrooms measure INSTANCE TIMES MEASURES\n",
+        b"usage:\nrooms solve INSTANCE TIMES\nrooms check INSTANCE TIMES MEASURES CERT\nrooms measure INSTANCE TIMES MEASURES\n",
     )?)
 }
 

@@ -1,4 +1,4 @@
-use Rattle.rooms_cmd.proofs.ExpectedLaws.{quiet_run, complete_run, legal_run, illegal_run}
+use Rattle.rooms_cmd.proofs.ExpectedLaws.{quiet_run, complete_run, legal_run, illegal_run, valid_run}
 use Rattle.rooms_cmd.proofs.command.run.Goals as goal
 
 pub returns-clause-quiet : goal.returns-clause-quiet
@@ -12,3 +12,6 @@ returns-clause-legal g c = legal_run _ _ _ _ _ _ _ _ _ _ c.respond.ensures.ends
 
 pub returns-clause-illegal : goal.returns-clause-illegal
 returns-clause-illegal g c = illegal_run _ _ _ _ _ _ _ _ _ _ c.respond.ensures.ends
+
+pub returns-clause-valid : goal.returns-clause-valid
+returns-clause-valid g c = valid_run _ _ _ _ _ _ _ _ _ _ c.text_laws.ensures.read c.certificate_laws.ensures.faultless c.respond.ensures.ends

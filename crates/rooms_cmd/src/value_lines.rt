@@ -20,8 +20,8 @@ pub fn value_lines(alloc: Global, problem: &Problem, choice: &Choice) -> Result<
 }
 
 /// The lines of six values, the fifth with its sign turned.
-fn lines_of(alloc: Global, values: &[i64; 6]) -> Result<Vec<u8>, Memory>
-    requires { AllByRecursion (IsWithin (pos 192000000000)) values.now }
+pub fn lines_of(alloc: Global, values: &[i64; 6]) -> Result<Vec<u8>, Memory>
+    requires { AllByRecursion (IsWithin (pos 1000000000000)) values.now }
     ensures { IfOk result (λ v. v.items ≡ lines_of values.now) }
 {
     let mut text = Vec::new(alloc);
@@ -36,7 +36,7 @@ fn lines_of(alloc: Global, values: &[i64; 6]) -> Result<Vec<u8>, Memory>
 
 /// The value with its sign turned.
 fn turned(value: i64) -> i64
-    requires { IsWithin (pos 192000000000) value }
+    requires { IsWithin (pos 1000000000000) value }
     ensures { result ≡ neg_ℤ value }
 {
     -value
