@@ -11,3 +11,6 @@ mod walk;
 pub use judge::check;
 pub use laws::certificate_laws;
 pub use verdict::{Reason, Verdict};
+
+#[cfg(test)]
+mod tests;
