@@ -1,18 +1,17 @@
 -- The choice of a valid certificate is best in its levels.
-use Rattle.std.proofs.Common.{ℕ, ◌≡◌, ◌≢◌, ◌<◌, ◌≤◌, ◌+◌, ◌-◌, arith, refl, sym, ◌∙◌, ap, subst, zero, suc, Bool, true, false, ◌||◌, List, [], ◌∷◌, length, take, inl, inr}
-use Rattle.std.specs.Prelude.{ℤ, pos, ◌≤ℤ◌, Option, Some, None, ◌==◌, slice_index_or}
+use Rattle.std.proofs.Common.{ℕ, ◌≡◌, ◌<◌, ◌≤◌, ◌-◌, arith, refl, sym, ◌∙◌, ap, subst, zero, suc, Bool, true, List, [], ◌∷◌, length, take, inl, inr}
+use Rattle.std.specs.Prelude.{ℤ, pos, ◌≤ℤ◌, ◌==◌, slice_index_or}
 use Rattle.std.proofs.lemmas.Bool.{true≢false, or_cases, eqb-true, cases_order}
 use Rattle.numbers.specs.Sums.{value, member}
 use Rattle.problem_core.specs.Facts.{Facts}
 use Rattle.problem_core.specs.Choice.{IsLegal}
-use Rattle.problem_core.specs.Measures.{measure, measures, SameBelow, IsBest}
-use Rattle.meeting_patterns.specs.Pattern.{AreCoursesKnown, ArePatterns, patterns_of, pattern_at, clash, chooses}
-use Rattle.meeting_patterns.specs.declared.pattern.Pattern.{Pattern}
+use Rattle.problem_core.specs.Measures.{measure, measures, IsBest}
+use Rattle.meeting_patterns.specs.Pattern.{patterns_of, pattern_at, clash, chooses}
 use Rattle.duality.specs.declared.leaf.Node.{Node as SearchNode}
-use Rattle.duality.specs.Packing.{Packing, Weights, Stage, AreCliques, IsPacking, Meets, target_of}
+use Rattle.duality.specs.Packing.{Packing, Weights, Stage, AreCliques, IsPacking, Meets}
 use Rattle.duality.specs.Leaf.{IsCapped}
 use Rattle.duality.specs.Tree.{proves_level}
-use Rattle.packing_model.specs.Rows.{packing_of, weights_of, in_cut}
+use Rattle.packing_model.specs.Rows.{in_cut}
 use Rattle.packing_model.specs.Built.{packing, measured}
 use Rattle.cert_text.specs.declared.lines.Certificate.{Certificate}
 use Rattle.cert_text.specs.Grammar.{opening_of}

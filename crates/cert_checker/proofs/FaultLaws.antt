@@ -1,9 +1,9 @@
 -- A certificate has no fault exactly where it is valid.
-use Rattle.std.proofs.Common.{ℕ, ◌≡◌, ◌≢◌, ◌<◌, ◌≤◌, ◌+◌, ◌-◌, arith, refl, sym, ◌∙◌, ap, subst, zero, suc, Bool, true, false, not, ◌&&◌, ◌||◌, List, [], ◌∷◌, ◌++◌, map, length, inl, inr, add-one}
-use Rattle.std.specs.Prelude.{ℤ, pos, negsuc, Option, Some, None, if◌then◌else◌, ◌==◌, nat_lt, int_le, ◌↔◌, slice_index_or, IsTrue}
+use Rattle.std.proofs.Common.{ℕ, ◌≡◌, ◌<◌, ◌+◌, arith, refl, sym, ◌∙◌, ap, zero, suc, Bool, true, false, not, ◌&&◌, List, [], ◌∷◌, length, inl, inr}
+use Rattle.std.specs.Prelude.{pos, Option, Some, None, if◌then◌else◌, nat_lt, int_le, ◌↔◌}
 use Rattle.std.specs.Option.{option_or}
 use Rattle.std.specs.List.{list_all, list_any}
-use Rattle.std.proofs.lemmas.Bool.{true≢false, cases_Bool, cases_eq, and_parts, and_from, or_left, or_right, or_cases, or_parts, eq-eqb, eqb-true, ne_eqb, ltb-true, lt-ltb, both_ways, not-true, not_from_false}
+use Rattle.std.proofs.lemmas.Bool.{true≢false, cases_Bool, and_parts, and_from, not-true}
 use Rattle.std.proofs.lemmas.Option.{none-some}
 use Rattle.duality.specs.declared.leaf.Leaf.{Leaf}
 use Rattle.duality.specs.declared.leaf.LeafFault.{LeafFault}
@@ -15,12 +15,11 @@ use Rattle.duality.specs.Leaf.{closes, leaf_fault}
 use Rattle.duality.specs.Tree.{can_branch, ends_at, proves_all, proves_level, with_zero, with_one, nothing_fixed}
 use Rattle.problem_core.specs.Facts.{Facts}
 use Rattle.cert_text.specs.declared.lines.Tree.{Tree}
-use Rattle.cert_text.specs.Grammar.{Opening, fills, is_open, is_closed_tree, tree_of}
+use Rattle.cert_text.specs.Grammar.{Opening, fills, is_open, is_closed_tree}
 use Rattle.packing_model.specs.Built.{packing, measured}
 use Rattle.cert_checker.specs.declared.verdict.Reason.{Reason}
 use Rattle.cert_checker.specs.declared.verdict.Reason.TheVariants as reasons
-use Rattle.cert_checker.specs.declared.verdict.Found.{Found}
-use Rattle.cert_checker.specs.Faults.{at_line, branch_reason, leaf_reason, node_reason, after_node, tree_fault, block_fault, levels_fault, stage_for}
+use Rattle.cert_checker.specs.Faults.{at_line, branch_reason, leaf_reason, tree_fault, block_fault, levels_fault, stage_for}
 use Rattle.cert_checker.specs.Verdicts.{tree_at}
 
 -- ---- no fault, as a test

@@ -1,8 +1,8 @@
 -- The fixing of a path is valid: its patterns are the packing's, and those that are taken differ and do not clash.
-use Rattle.std.proofs.Common.{ℕ, ◌≡◌, ◌≢◌, ◌<◌, ◌≤◌, ◌+◌, arith, refl, sym, ◌∙◌, ap, subst, zero, suc, Bool, true, false, not, ◌&&◌, List, [], ◌∷◌, ◌++◌, length, inl, inr, length-append, get_or}
+use Rattle.std.proofs.Common.{ℕ, ◌≡◌, ◌<◌, arith, refl, sym, ◌∙◌, subst, zero, suc, Bool, true, false, not, ◌&&◌, List, [], ◌∷◌, ◌++◌, length, inl, inr, length-append}
 use Rattle.std.specs.Prelude.{◌==◌, nat_lt, slice_index_or}
 use Rattle.std.specs.List.{list_all, list_any}
-use Rattle.std.proofs.lemmas.Bool.{true≢false, and_parts, and_from, or_left, or_right, or_parts, cases_lt, eq-eqb, not-true, both_ways}
+use Rattle.std.proofs.lemmas.Bool.{and_parts, and_from, or_parts, cases_lt, eq-eqb, not-true, both_ways}
 use Rattle.std.proofs.lemmas.List.{get_or_push, get_or_append_left}
 use Rattle.std.proofs.lemmas.List.Folds.{list_all-append}
 use Rattle.numbers.specs.Sums.{member}
@@ -12,7 +12,7 @@ use Rattle.duality.specs.Packing.{Packing, Fixing as Fixed, is_free}
 use Rattle.duality.specs.Tree.{can_branch}
 use Rattle.duality.specs.Walk.{Step, fixing_of}
 use Rattle.packing_model.specs.Built.{packing}
-use Rattle.packing_model.specs.Nodes.{fixed_of, IsFixingOf, IsValidFixing}
+use Rattle.packing_model.specs.Nodes.{IsFixingOf, IsValidFixing}
 use Rattle.cert_checker.specs.Paths.{path_of, is_path, IsWalk}
 use Rattle.cert_checker.specs.declared.walk.Walk.{Walk}
 use Rattle.cert_checker.proofs.ClashLaws.{apart_back}

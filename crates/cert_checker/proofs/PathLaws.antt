@@ -1,6 +1,6 @@
 -- A path grows and turns at its last branch.
-use Rattle.std.proofs.Common.{ℕ, ◌≡◌, ◌-◌, ◌<◌, arith, refl, sym, ◌∙◌, ap, subst, Bool, true, false, List, [], ◌∷◌, ◌++◌, length, take}
-use Rattle.std.specs.Prelude.{Option, Some, None, ◌&&◌}
+use Rattle.std.proofs.Common.{ℕ, ◌≡◌, ◌-◌, arith, refl, sym, ◌∙◌, ap, Bool, true, false, List, [], ◌∷◌, ◌++◌, length, take}
+use Rattle.std.specs.Prelude.{Some}
 use Rattle.std.proofs.lemmas.Bool.{and_parts, and_from}
 use Rattle.std.proofs.lemmas.List.{length_push, take_at}
 use Rattle.duality.specs.Packing.{Packing, Fixing as Fixed}
@@ -8,10 +8,9 @@ use Rattle.duality.specs.Tree.{can_branch, with_zero, with_one}
 use Rattle.duality.specs.Walk.{Step, step_at, fixing_of, turn}
 use Rattle.packing_model.specs.Fixings.{without_last}
 use Rattle.packing_model.specs.Nodes.{fixed_of}
-use Rattle.cert_checker.specs.Paths.{onto_path, path_of, is_path, IsWalk, IsTurned, IsOutside}
+use Rattle.cert_checker.specs.Paths.{onto_path, path_of, is_path, IsWalk, IsOutside}
 use Rattle.packing_model.specs.declared.fixing.Fixing.{Fixing}
 use Rattle.cert_checker.specs.declared.walk.Side.{Side}
-use Rattle.cert_checker.specs.declared.walk.Walk.{Walk}
 
 onto_more : (path : List Step) (sides : List Side) (b : Side) → onto_path path (sides ++ (b ∷ [])) ≡ step_at b.pattern b.inside ∷ onto_path path sides
 onto_more path [] b = refl

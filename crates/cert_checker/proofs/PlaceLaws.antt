@@ -1,6 +1,6 @@
 -- What is kept of the places and the cuts, from line to line.
-use Rattle.std.proofs.Common.{ℕ, ◌≡◌, ◌<◌, ◌≤◌, ◌+◌, ◌-◌, arith, refl, sym, ◌∙◌, ap, subst, zero, suc, Bool, true, false, cond, List, [], ◌∷◌, length, inl, inr}
-use Rattle.std.specs.Prelude.{ℤ, pos, ◌^◌, ◌==◌, ◌⊎◌, nat_lt, nat_le, Option, Some, None, slice_index_or}
+use Rattle.std.proofs.Common.{ℕ, ◌≡◌, ◌<◌, ◌≤◌, ◌+◌, ◌-◌, arith, refl, sym, ◌∙◌, ap, subst, zero, suc, Bool, true, false, cond, [], ◌∷◌, inl, inr}
+use Rattle.std.specs.Prelude.{pos, ◌^◌, ◌==◌, ◌⊎◌, nat_lt, Option, Some, None, slice_index_or}
 use Rattle.std.proofs.lemmas.Bool.{and_parts, ne_eqb, lt-ltb, ltb-true, leb-true}
 use Rattle.std.proofs.lemmas.Int.{ints}
 use Rattle.std.proofs.lemmas.Option.{none-some}

@@ -1,6 +1,6 @@
 -- The verdict is read line by line.
-use Rattle.std.proofs.Common.{ℕ, ◌≡◌, ◌+◌, refl, sym, ◌∙◌, ap, subst, Bool, true, false, List, [], ◌∷◌}
-use Rattle.std.specs.Prelude.{Option, Some, None, Ok, Err}
+use Rattle.std.proofs.Common.{ℕ, ◌≡◌, ◌+◌, sym, ◌∙◌, ap, Bool, true, false, List, ◌∷◌}
+use Rattle.std.specs.Prelude.{Option, Some, None, Err}
 use Rattle.std.proofs.lemmas.Bool.{true≢false}
 use Rattle.problem_core.specs.Facts.{Facts}
 use Rattle.cert_text.specs.Grammar.{State}

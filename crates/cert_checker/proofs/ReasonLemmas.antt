@@ -1,5 +1,5 @@
 -- Reasons of the lines before the levels.
-use Rattle.std.proofs.Common.{ℕ, ◌≡◌, ◌<◌, ◌∙◌, ◌&&◌, arith, refl, sym, ap, subst, not, Bool, true, false, inl, inr, List, [], ◌∷◌, length, get_or, zero, suc, ◌+◌, ◌≤◌}
+use Rattle.std.proofs.Common.{ℕ, ◌≡◌, ◌<◌, ◌∙◌, ◌&&◌, arith, refl, sym, ap, subst, not, Bool, true, false, inl, inr, List, [], ◌∷◌, length, get_or, zero, suc}
 use Rattle.std.specs.Prelude.{ℤ, pos, ◌^◌, nat_le, nat_lt, Option, Some, None, Result, Ok, Err, if◌then◌else◌, ◌↔◌, slice_index_or}
 use Rattle.std.specs.List.{list_all, AllByRecursion}
 use Rattle.std.proofs.lemmas.Int.{ints}

@@ -1,5 +1,5 @@
 -- Behind each line that may come, the progress stands for the state of the text.
-use Rattle.std.proofs.Common.{ℕ, ◌≡◌, ◌<◌, ◌≤◌, ◌+◌, ◌-◌, arith, refl, sym, ◌∙◌, ap, subst, zero, suc, Bool, true, false, cond, List, [], ◌∷◌, ◌++◌, length, take}
+use Rattle.std.proofs.Common.{ℕ, ◌≡◌, ◌+◌, ◌-◌, arith, refl, sym, ◌∙◌, ap, subst, zero, suc, Bool, true, false, cond, List, [], ◌∷◌, ◌++◌, length, take}
 use Rattle.std.specs.Prelude.{ℤ, Option, Some, None, option_map, ◌==◌, ◌^◌}
 use Rattle.std.specs.List.{list_all}
 use Rattle.std.specs.Option.{option_or}
@@ -11,8 +11,8 @@ use Rattle.problem_core.specs.Measures.{measures, differ_at}
 use Rattle.duality.specs.declared.leaf.Leaf.{Leaf}
 use Rattle.duality.specs.declared.leaf.Node.{Node as SearchNode}
 use Rattle.duality.specs.declared.leaf.Node.TheVariants.{Branch, Leaf as Closing, OpenEnd}
-use Rattle.duality.specs.Packing.{Packing, Weights, Stage, Fixing}
-use Rattle.duality.specs.Tree.{nothing_fixed, with_zero, with_one}
+use Rattle.duality.specs.Packing.{Fixing}
+use Rattle.duality.specs.Tree.{nothing_fixed}
 use Rattle.duality.specs.Walk.{Step, step_at, fixing_of, later, turn, pending, pending_of}
 use Rattle.duality.proofs.WalkLaws.{later-turn}
 use Rattle.cert_text.specs.declared.lines.Tree.{Tree}
@@ -35,7 +35,7 @@ use Rattle.cert_checker.specs.declared.verdict.Found.{Found}
 use Rattle.cert_checker.specs.declared.progress.Progress.{Progress}
 use Rattle.cert_checker.specs.Faults.{at_line, values_reason, node_reason, after_node, after, next_reason, stage_for, value_at}
 use Rattle.cert_checker.specs.Paths.{path_of, IsTurned}
-use Rattle.cert_checker.specs.Progresses.{fault_in, reason_at, IsNextLine, KeepsOpening, KeepsPath, Keeps, Stands, stage_in, node_reason_in, reason_of, PoolAfter, MeasuresAfter, NodeAfter, NodeAfterIn, PathAfter, IsKept, IsAdded, Judges, Takes}
+use Rattle.cert_checker.specs.Progresses.{fault_in, reason_at, IsNextLine, KeepsOpening, KeepsPath, Keeps, Stands, stage_in, node_reason_in, reason_of, NodeAfterIn, IsAdded, Judges, Takes}
 use Rattle.cert_checker.proofs.StepLaws.{AddsTo, Adds, step_adds}
 
 -- ---- the reason by what is kept is that of the state

@@ -1,8 +1,7 @@
 -- A line adds its own fault to those before, and the number of the next line.
-use Rattle.std.proofs.Common.{ℕ, ◌≡◌, ◌<◌, ◌≤◌, ◌+◌, ◌-◌, arith, refl, sym, ◌∙◌, ap, subst, zero, suc, Bool, true, false, cond, List, [], ◌∷◌, ◌++◌, length, length-append}
-use Rattle.std.specs.Prelude.{ℤ, Option, Some, None, ◌==◌}
+use Rattle.std.proofs.Common.{ℕ, ◌≡◌, ◌+◌, arith, refl, sym, ◌∙◌, ap, zero, suc, Bool, true, false, cond, List, [], ◌∷◌, ◌++◌, length, length-append}
+use Rattle.std.specs.Prelude.{Option, Some, None, ◌==◌}
 use Rattle.std.specs.Option.{option_or}
-use Rattle.std.proofs.lemmas.Option.{none-some, same_Some}
 use Rattle.problem_core.specs.Facts.{Facts}
 use Rattle.duality.specs.declared.leaf.Node.{Node as SearchNode}
 use Rattle.duality.specs.declared.leaf.Node.TheVariants.{Branch, Leaf as Closing, OpenEnd}
@@ -11,11 +10,11 @@ use Rattle.duality.specs.Tree.{nothing_fixed}
 use Rattle.cert_text.specs.declared.lines.Tree.{Tree}
 use Rattle.cert_text.specs.declared.lines.CertLine.{CertLine}
 use Rattle.cert_text.specs.declared.lines.CertLine.TheVariants as lines
-use Rattle.cert_text.specs.Grammar.{State, Opening, with_cut, with_levels, tree_of, awaits, may_begin, step}
+use Rattle.cert_text.specs.Grammar.{State, Opening, with_cut, with_levels, tree_of, may_begin, step}
 use Rattle.cert_text.specs.Grammar.State.{Begun, Headed, Sized, Chosen, Valued, Cutting, Between, Inside, Loose, After, Over}
 use Rattle.packing_model.specs.Built.{packing, measured}
 use Rattle.cert_checker.specs.declared.verdict.Found.{Found}
-use Rattle.cert_checker.specs.Faults.{at_line, cut_reason, cuts_fault, node_reason, after_node, after, next_reason, tree_fault, valued_fault, opening_fault, stage_for, block_fault, levels_fault, between_fault, first_level_line, fault_of}
+use Rattle.cert_checker.specs.Faults.{at_line, cut_reason, cuts_fault, node_reason, after_node, after, next_reason, tree_fault, valued_fault, opening_fault, stage_for, block_fault, levels_fault, between_fault, first_level_line}
 use Rattle.cert_checker.specs.Progresses.{levels_size, fault_in, reason_at, IsNextLine}
 
 or_none : {A : Type 0} (x : Option A) → option_or x None ≡ x

@@ -1,33 +1,28 @@
 -- The lines before the levels have no fault exactly where they are valid; so a certificate.
-use Rattle.std.proofs.Common.{ℕ, ◌≡◌, ◌≢◌, ◌<◌, ◌≤◌, ◌+◌, ◌-◌, arith, refl, sym, ◌∙◌, ap, subst, zero, suc, Bool, true, false, not, ◌&&◌, ◌||◌, List, [], ◌∷◌, ◌++◌, map, length, inl, inr, add-one}
-use Rattle.std.specs.Prelude.{ℤ, pos, negsuc, Option, Some, None, if◌then◌else◌, ◌==◌, ◌^◌, ◌⊎◌, nat_lt, nat_le, int_le, ◌↔◌, slice_index_or, IsTrue}
-use Rattle.std.specs.Option.{option_or}
-use Rattle.std.specs.Ordering.{int_eq}
-use Rattle.std.specs.List.{list_all, list_any}
-use Rattle.std.proofs.lemmas.Bool.{true≢false, cases_Bool, cases_eq, and_parts, and_from, or_left, or_right, or_cases, or_parts, or_from, eq-eqb, eqb-true, ne_eqb, ltb-true, lt-ltb, le-leb, both_ways, not-true, not-false, not_from_false, true_from_ne_false, false_from_ne_true}
+use Rattle.std.proofs.Common.{ℕ, ◌≡◌, ◌≢◌, ◌<◌, ◌+◌, ◌-◌, arith, refl, sym, ◌∙◌, ap, zero, suc, Bool, true, false, not, ◌&&◌, List, [], ◌∷◌, ◌++◌, map, length, inl, inr}
+use Rattle.std.specs.Prelude.{ℤ, pos, negsuc, Option, Some, None, if◌then◌else◌, ◌==◌, ◌^◌, ◌⊎◌, nat_lt, nat_le, int_le, slice_index_or}
+use Rattle.std.specs.List.{list_all}
+use Rattle.std.proofs.lemmas.Bool.{true≢false, cases_eq, and_parts, and_from, or_left, or_right, or_cases, or_from, eq-eqb, eqb-true, ne_eqb, ltb-true, lt-ltb, le-leb, not-true, not-false, not_from_false}
 use Rattle.std.proofs.lemmas.Bool.Decides.{Decides-int_eq}
 use Rattle.std.proofs.lemmas.List.Folds.{list_all-append}
-use Rattle.std.proofs.lemmas.Int.{ints}
-use Rattle.numbers.specs.Below.{any_below, any_below_at, none_below}
+use Rattle.numbers.specs.Below.{any_below, none_below}
 use Rattle.problem_core.specs.Facts.{Facts, suits, share_slot}
 use Rattle.problem_core.specs.Choice.{IsLegal, entry, holds}
 use Rattle.problem_core.specs.Measures.{measures, differ_at}
-use Rattle.duality.specs.declared.leaf.Leaf.{Leaf}
 use Rattle.duality.specs.declared.leaf.Node.{Node as SearchNode}
 use Rattle.duality.specs.declared.leaf.Node.TheVariants.{Branch, Leaf as Closing, OpenEnd}
 use Rattle.duality.specs.Packing.{Packing}
 use Rattle.duality.specs.Tree.{proves_level}
 use Rattle.cert_text.specs.declared.lines.Tree.{Tree}
 use Rattle.cert_text.specs.declared.lines.CertLine.{CertLine}
-use Rattle.cert_text.specs.declared.lines.CertLine.TheVariants.{Head, Sizes, Choice, Values, Cuts, Cut, Level, Unfinished, Node, End}
+use Rattle.cert_text.specs.declared.lines.CertLine.TheVariants.{Sizes, Choice, Values, Cuts, Cut, Level, Node, End}
 use Rattle.cert_text.specs.declared.lines.Certificate.{Certificate}
-use Rattle.cert_text.specs.Spelling.{in_bounds, scale_in_bounds, leaf_in_bounds, term_in_bounds}
+use Rattle.cert_text.specs.Spelling.{in_bounds, scale_in_bounds, term_in_bounds}
 use Rattle.duality.specs.Sums.{rises, is_small}
 use Rattle.cert_text.specs.Grammar.{Opening, opening_of, blocks, open_block, lines_of, is_closed_tree, is_open_tree, fits_count, is_shaped, is_writable}
 use Rattle.meeting_patterns.specs.Pattern.{patterns_of}
 use Rattle.packing_model.specs.Built.{packing, measured, rows_of}
 use Rattle.packing_model.specs.Cuts.{first_clear_of, pair_with, first_apart}
-use Rattle.cert_checker.specs.declared.verdict.Reason.{Reason}
 use Rattle.cert_checker.specs.declared.verdict.Reason.TheVariants as reasons
 use Rattle.cert_checker.specs.Faults.{at_line, sizes_reason, entry_fits, is_legal, choice_reason, values_reason, unknown_reason, apart_reason, cut_reason, cuts_fault, sized_fault, chosen_fault, valued_fault, opening_fault, levels_fault, first_level_line, fault_of, stage_for}
 use Rattle.cert_checker.specs.Verdicts.{IsClique, IsValid, tree_at}

@@ -1,14 +1,14 @@
 -- What a verdict means.
-use Rattle.std.proofs.Common.{ℕ, ◌≡◌, ◌<◌, ◌≤◌, ◌+◌, arith, refl, sym, ◌∙◌, ap, subst, Bool, true, false, not, ◌&&◌, List, [], ◌∷◌, length, inl, inr}
-use Rattle.std.specs.Prelude.{ℤ, Option, Some, None, Result, Ok, Err, if◌then◌else◌, nat_lt, ◌↔◌, ◌==◌}
+use Rattle.std.proofs.Common.{ℕ, ◌≡◌, ◌≤◌, ◌+◌, arith, refl, sym, ◌∙◌, ap, Bool, true, false, not, ◌&&◌, List, [], ◌∷◌, length}
+use Rattle.std.specs.Prelude.{Option, Some, None, Result, Ok, Err, if◌then◌else◌, nat_lt, ◌↔◌, ◌==◌}
 use Rattle.std.specs.Option.{option_or}
 use Rattle.std.specs.List.{list_all}
-use Rattle.std.proofs.lemmas.Bool.{true≢false, and_parts, and_from, ltb-true, both_ways, not_from_true}
+use Rattle.std.proofs.lemmas.Bool.{true≢false, and_parts, ltb-true, both_ways, not_from_true}
 use Rattle.std.proofs.lemmas.Option.{none-some}
 use Rattle.numbers.specs.Below.{any_below}
 use Rattle.problem_core.specs.Facts.{Facts}
 use Rattle.problem_core.specs.Measures.{measures, differ_at, IsBest}
-use Rattle.meeting_patterns.specs.Pattern.{patterns_of, AreCoursesKnown}
+use Rattle.meeting_patterns.specs.Pattern.{patterns_of}
 use Rattle.duality.specs.declared.leaf.Node.{Node as SearchNode}
 use Rattle.duality.specs.declared.leaf.Node.TheVariants.{Branch, Leaf as Closing, OpenEnd}
 use Rattle.duality.specs.declared.leaf.LeafFault.{LeafFault}
@@ -20,16 +20,14 @@ use Rattle.packing_model.specs.Built.{packing, measured, rows_of}
 use Rattle.packing_model.specs.Cuts.{first_apart}
 use Rattle.cert_text.specs.declared.lines.Tree.{Tree}
 use Rattle.cert_text.specs.declared.lines.Certificate.{Certificate}
-use Rattle.cert_text.specs.declared.lines.CertLine.{CertLine}
 use Rattle.cert_text.specs.Spelling.{in_bounds}
 use Rattle.cert_text.specs.Grammar.{Opening, opening_of, lines_of, fits_count, is_closed_tree, is_open_tree, is_shaped, is_writable}
 use Rattle.cert_text.specs.Text.{IsText, IsFaultyLine, certificate_of}
 use Rattle.cert_checker.specs.declared.verdict.Reason.{Reason}
 use Rattle.cert_checker.specs.declared.verdict.Reason.TheVariants as reasons
 use Rattle.cert_checker.specs.declared.verdict.Found.{Found}
-use Rattle.cert_checker.specs.declared.verdict.Verdict.{Verdict}
-use Rattle.cert_checker.specs.Faults.{at_line, sizes_reason, is_legal, choice_reason, values_reason, unknown_reason, apart_reason, cut_reason, cuts_fault, branch_reason, leaf_reason, node_reason, after_node, tree_fault, sized_fault, chosen_fault, valued_fault, opening_fault, stage_for, block_fault, levels_fault, first_level_line, fault_of}
-use Rattle.cert_checker.specs.Verdicts.{IsValid, judged, verdict_of, IsProof, IsNoProof, Means}
+use Rattle.cert_checker.specs.Faults.{at_line, sizes_reason, is_legal, choice_reason, values_reason, unknown_reason, apart_reason, cut_reason, cuts_fault, leaf_reason, node_reason, after_node, tree_fault, sized_fault, chosen_fault, valued_fault, opening_fault, stage_for, block_fault, levels_fault, first_level_line, fault_of}
+use Rattle.cert_checker.specs.Verdicts.{IsValid, judged, verdict_of, Means}
 
 -- ---- a fault of the lines is none of the text
 

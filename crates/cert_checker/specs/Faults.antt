@@ -1,5 +1,5 @@
 -- The first fault of a certificate, in the order of its lines.
-use Rattle.std.specs.Prelude.{ℕ, ℤ, pos, ◌+◌, ◌-◌, ◌==◌, ◌&&◌, ◌||◌, nat_lt, Bool, true, false, not, if◌then◌else◌, Option, Some, None, List, [], ◌∷◌, ◌++◌, length, take, slice_index_or}
+use Rattle.std.specs.Prelude.{ℕ, ℤ, pos, ◌+◌, ◌-◌, ◌==◌, ◌&&◌, ◌||◌, nat_lt, Bool, not, if◌then◌else◌, Option, Some, None, List, [], ◌∷◌, length, take, slice_index_or}
 use Rattle.std.specs.Option.{option_or}
 use Rattle.numbers.specs.Below.{any_below}
 use Rattle.problem_core.specs.Facts.{Facts, suits}

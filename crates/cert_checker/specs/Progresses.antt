@@ -2,9 +2,8 @@
 use Rattle.std.specs.Prelude.{ℕ, ℤ, pos, ◌≡◌, ◌<◌, ◌≤◌, ◌+◌, ◌-◌, ◌^◌, Bool, true, false, Option, Some, None, List, [], ◌∷◌, ◌++◌, length, take, slice_index_or}
 use Rattle.std.specs.Option.{option_or}
 use Rattle.problem_core.specs.Facts.{Facts}
-use Rattle.problem_core.specs.Choice.{IsLegal}
 use Rattle.problem_core.specs.Measures.{measures}
-use Rattle.duality.specs.Packing.{Packing, Stage}
+use Rattle.duality.specs.Packing.{Stage}
 use Rattle.duality.specs.Sums.{IsWithin}
 use Rattle.duality.specs.Tree.{nothing_fixed}
 use Rattle.duality.specs.Walk.{Step, step_at, fixing_of, turn, pending_of}
@@ -15,7 +14,7 @@ use Rattle.cert_text.specs.declared.lines.CertLine.{CertLine}
 use Rattle.cert_text.specs.declared.lines.CertLine.TheVariants as lines
 use Rattle.cert_text.specs.declared.place.Place.{Place}
 use Rattle.cert_text.specs.declared.place.Place.TheVariants as places
-use Rattle.cert_text.specs.Grammar.{State, Opening}
+use Rattle.cert_text.specs.Grammar.{State}
 use Rattle.cert_text.specs.Grammar.State.{Begun, Headed, Sized, Chosen, Valued, Cutting, Between, Inside, Loose, After, Over}
 use Rattle.cert_text.specs.Places.{place_of, count_of, wanted_of}
 use Rattle.cert_text.specs.Text.{read_from, certificate_of}

@@ -1,5 +1,5 @@
 -- A valid certificate, and the verdict on bytes.
-use Rattle.std.specs.Prelude.{ℕ, ℤ, ◌≡◌, ◌≢◌, ◌<◌, ◌≤◌, ◌-◌, nat_lt, true, Option, Some, None, Result, Ok, Err, List, [], ◌∷◌, length, slice_index_or}
+use Rattle.std.specs.Prelude.{ℕ, ℤ, ◌≡◌, ◌<◌, ◌≤◌, ◌-◌, nat_lt, true, Option, Some, None, Result, Ok, Err, List, [], length, slice_index_or}
 use Rattle.std.specs.List.{list_all}
 use Rattle.problem_core.specs.Facts.{Facts}
 use Rattle.problem_core.specs.Choice.{IsLegal}
@@ -11,7 +11,7 @@ use Rattle.packing_model.specs.Built.{rows_of, packing, measured}
 use Rattle.cert_text.specs.declared.lines.Tree.{Tree}
 use Rattle.cert_text.specs.declared.lines.Certificate.{Certificate}
 use Rattle.cert_text.specs.Grammar.{opening_of, tree_of}
-use Rattle.cert_text.specs.Text.{IsText, IsFaultyLine, certificate_of}
+use Rattle.cert_text.specs.Text.{IsText, IsFaultyLine}
 use Rattle.cert_checker.specs.declared.verdict.Reason.TheVariants as reasons
 use Rattle.cert_checker.specs.declared.verdict.Found.{Found}
 use Rattle.cert_checker.specs.declared.verdict.Verdict.{Verdict}

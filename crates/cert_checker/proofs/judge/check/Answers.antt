@@ -1,7 +1,6 @@
-use Rattle.std.proofs.Common.{◌∙◌, subst, sym, ap}
+use Rattle.std.proofs.Common.{subst, sym}
 use Rattle.std.proofs.lemmas.Result.{IfOk-weaker}
-use Rattle.cert_text.specs.Text.{certificate_of}
-use Rattle.cert_checker.specs.Verdicts.{verdict_of, Means}
+use Rattle.cert_checker.specs.Verdicts.{Means}
 use Rattle.cert_checker.proofs.VerdictLaws.{verdict_means}
 use Rattle.cert_checker.proofs.judge.check.Goals as goal
 

@@ -1,5 +1,4 @@
 use Rattle.std.proofs.Common.{arith}
-use Rattle.cert_text.specs.Grammar.State.{Begun}
 use Rattle.cert_text.specs.Text.{whole_lines, rest_of}
 use Rattle.cert_checker.proofs.ReadingLaws.{reading_begins, reading_stops, reading_goes}
 use Rattle.cert_checker.proofs.judge.judge.Goals as goal

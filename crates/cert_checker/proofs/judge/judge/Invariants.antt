@@ -1,4 +1,4 @@
-use Rattle.std.proofs.Common.{◌≡◌, ◌+◌, ◌≤◌, length}
+use Rattle.std.proofs.Common.{◌+◌, ◌≤◌, length}
 use Rattle.cert_text.specs.Text.{whole_lines, rest_of}
 use Rattle.cert_checker.specs.Progresses.{IsProgress, IsReading}
 use Rattle.cert_checker.proofs.judge.judge.Given as goal

@@ -1,8 +1,6 @@
-use Rattle.std.proofs.Common.{◌∙◌, ◌≡◌, ◌≤◌, ◌+◌, arith, ap, subst, sym, length}
-use Rattle.cert_text.specs.Places.{follows}
-use Rattle.cert_checker.specs.Progresses.{cut_count}
+use Rattle.std.proofs.Common.{◌∙◌, arith, sym, length}
 use Rattle.cert_checker.proofs.PlaceLaws.{room_for, next_place}
-use Rattle.cert_checker.proofs.StandLaws.{stands_next, behind}
+use Rattle.cert_checker.proofs.StandLaws.{stands_next}
 use Rattle.cert_checker.proofs.progress.Progress.take.Goals as goal
 
 pub judge-requires-clause-room : goal.judge-requires-clause-room

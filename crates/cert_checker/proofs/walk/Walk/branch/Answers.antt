@@ -1,4 +1,4 @@
-use Rattle.std.proofs.Common.{◌∙◌, ap, true, false}
+use Rattle.std.proofs.Common.{◌∙◌, ap, false}
 use Rattle.cert_checker.specs.Paths.{path_of}
 use Rattle.cert_checker.proofs.PathLaws.{path_more, branched}
 use Rattle.cert_checker.proofs.walk.Walk.branch.Goals as goal

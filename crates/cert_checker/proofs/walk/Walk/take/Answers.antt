@@ -1,4 +1,4 @@
-use Rattle.std.proofs.Common.{◌∙◌, ap, true, false}
+use Rattle.std.proofs.Common.{◌∙◌, ap, true}
 use Rattle.cert_checker.specs.Paths.{path_of}
 use Rattle.cert_checker.proofs.PathLaws.{path_more, taken}
 use Rattle.cert_checker.proofs.walk.Walk.take.Goals as goal

@@ -1,8 +1,6 @@
-use Rattle.std.proofs.Common.{◌∙◌, sym, subst, ap}
-use Rattle.std.specs.Prelude.{Some}
+use Rattle.std.proofs.Common.{◌∙◌, sym, subst}
 use Rattle.std.proofs.lemmas.Result.{on_ok_weaker}
 use Rattle.std.proofs.lemmas.Bool.{not-true, not-false}
-use Rattle.duality.specs.Walk.{turn}
 use Rattle.cert_checker.specs.Paths.{path_of, IsTurned}
 use Rattle.cert_checker.proofs.PathLaws.{popped_inside, popped_outside, turn_inside, turn_outside}
 use Rattle.cert_checker.proofs.walk.Walk.turn.Goals as goal
