@@ -4,3 +4,4 @@ pub mod TreeLaws
 pub mod ChoiceLaws
 pub mod WalkLaws
 pub mod PricedLaws
+pub mod RunLaws

@@ -3,11 +3,12 @@ ghost use Rattle.std.specs.List.{list_all};
 ghost use Rattle.numbers.specs.Sums.{total};
 ghost use Rattle.duality.specs.Packing.{level_coefficient, level_side};
 ghost use Rattle.duality.specs.Leaf.{is_under};
+ghost use Rattle.duality.specs.Runs.{rows_in, AreBelow};
 ghost use Rattle.duality.specs.Sums.{rises, are_small, is_small, IsWithin, times_of, clique_worth, level_sum, AreLevelTimes, AreOfLevels, HaveTargets, IsValue};
 
 use crate::leaf::Leaf;
 use crate::objective::{Objective, Weighed};
-use crate::row::RowName;
+use crate::row::{RowName, Run};
 use crate::sums::{
     added, clique_worth, priced_cliques, priced_levels, product, weigh, weight_of, worth_levels,
 };
@@ -21,14 +22,14 @@ fn lessened(sum: i128, part: i128) -> i128
     sum - part
 }
 
-/// The reduced cost of a pattern that stands in these base rows and these cuts: the scale times its weight,
+/// The reduced cost of a pattern that stands in the base rows of these runs and in these cuts: the scale times its weight,
 /// less what the rows cost it. `times` are the multipliers of the leaf's level rows.
 pub fn reduced_cost<O: Objective>(
     objective: &O,
     level: u32,
     leaf: &Leaf,
     times: &[i128; 7],
-    base: &[RowName],
+    base: &[Run],
     cuts: &[RowName],
     pattern: u32,
 ) -> i128
@@ -40,9 +41,10 @@ pub fn reduced_cost<O: Objective>(
     requires small { are_small leaf.now.terms ≡ true }
     requires times { AreLevelTimes leaf.now.terms times.now }
     requires levels { AreOfLevels (O.levels objective.now) times.now }
-    requires few_base { length base.now ≤ 4000 }
+    requires few_base { length (rows_in base.now) ≤ 4000 }
+    requires low_base { AreBelow 4000 base.now }
     requires few_cuts { length cuts.now ≤ 1000 }
-    ensures { result ≡ (leaf.now.scale *ℤ O.weight objective.now level pattern) -ℤ ((total (times_of leaf.now.terms) (base.now ++ cuts.now)) +ℤ
+    ensures { result ≡ (leaf.now.scale *ℤ O.weight objective.now level pattern) -ℤ ((total (times_of leaf.now.terms) (rows_in base.now ++ cuts.now)) +ℤ
         level_sum leaf.now.terms (λ j. level_coefficient (record { weight = O.weight objective.now; floor = O.floor objective.now }) j pattern)) }
 {
     let gain = product(

@@ -17,3 +17,10 @@ pub struct Term {
     pub row: RowName,
     pub times: i128,
 }
+
+/// Base rows one after the other: `count` of them, from number `first` on.
+#[derive(Clone, Copy, Debug, PartialEq, Eq)]
+pub struct Run {
+    pub first: u32,
+    pub count: u32,
+}

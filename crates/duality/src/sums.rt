@@ -3,10 +3,11 @@ ghost use Rattle.std.specs.List.{list_all};
 ghost use Rattle.numbers.specs.Sums.{total, picked, sum_below};
 ghost use Rattle.duality.specs.declared.row.RowName.TheVariants as rows;
 ghost use Rattle.duality.specs.Packing.{level_coefficient, level_side, floor_level};
+ghost use Rattle.duality.specs.Runs.{rows_from, rows_in, AreBelow};
 ghost use Rattle.duality.specs.Sums.{row_before, same_row, rises, are_small, IsWithin, times_of, clique_worth, is_clique, level_sum, HaveTargets, weighed, weighed_at, IsLevelOf, AreLevelTimes, AreOfLevels};
 
 use crate::objective::{Objective, Weighed};
-use crate::row::{FLOOR_LEVEL, RowName, Term};
+use crate::row::{FLOOR_LEVEL, RowName, Run, Term};
 
 /// Whether two names are of one row.
 pub fn is_same(a: RowName, b: RowName) -> bool
@@ -59,7 +60,7 @@ pub fn times_of(terms: &[Term], row: RowName) -> i128
     0
 }
 
-/// What the terms cost a pattern on the rows that it stands in, base rows and cuts.
+/// What the terms cost a pattern on these rows.
 pub fn priced(terms: &[Term], rows: &[RowName]) -> i128
     requires rising { rises terms.now ≡ true }
     requires small { are_small terms.now ≡ true }
@@ -74,16 +75,48 @@ pub fn priced(terms: &[Term], rows: &[RowName]) -> i128
     sum
 }
 
-/// What the terms cost a pattern that stands in these base rows and these cuts.
-pub fn priced_cliques(terms: &[Term], base: &[RowName], cuts: &[RowName]) -> i128
+// What the terms cost a pattern on one run of base rows.
+fn priced_run(terms: &[Term], run: Run) -> i128
     requires rising { rises terms.now ≡ true }
     requires small { are_small terms.now ≡ true }
-    requires few_base { length base.now ≤ 4000 }
+    requires low { run.first + run.count ≤ 4000 }
+    ensures value { result ≡ total (times_of terms.now) (rows_from run.first run.count) }
+    ensures small { IsWithin (run.count * 10 ^ 24) result }
+{
+    let mut sum: i128 = 0;
+    for row in run.first..run.first + run.count {
+        sum = added(sum, times_of(terms, RowName::Base(row)));
+    }
+    sum
+}
+
+/// What the terms cost a pattern on the base rows of these runs.
+pub fn priced_runs(terms: &[Term], runs: &[Run]) -> i128
+    requires rising { rises terms.now ≡ true }
+    requires small { are_small terms.now ≡ true }
+    requires few { length (rows_in runs.now) ≤ 4000 }
+    requires low { AreBelow 4000 runs.now }
+    ensures value { result ≡ total (times_of terms.now) (rows_in runs.now) }
+    ensures small { IsWithin (length (rows_in runs.now) * 10 ^ 24) result }
+{
+    let mut sum: i128 = 0;
+    for run in runs {
+        sum = added(sum, priced_run(terms, *run));
+    }
+    sum
+}
+
+/// What the terms cost a pattern that stands in the base rows of these runs and in these cuts.
+pub fn priced_cliques(terms: &[Term], base: &[Run], cuts: &[RowName]) -> i128
+    requires rising { rises terms.now ≡ true }
+    requires small { are_small terms.now ≡ true }
+    requires few_base { length (rows_in base.now) ≤ 4000 }
+    requires low_base { AreBelow 4000 base.now }
     requires few_cuts { length cuts.now ≤ 1000 }
-    ensures value { result ≡ total (times_of terms.now) (base.now ++ cuts.now) }
+    ensures value { result ≡ total (times_of terms.now) (rows_in base.now ++ cuts.now) }
     ensures small { IsWithin (5000 * 10 ^ 24) result }
 {
-    priced(terms, base) + priced(terms, cuts)
+    priced_runs(terms, base) + priced(terms, cuts)
 }
 
 /// A sum and a part that are far from the ends of the type.

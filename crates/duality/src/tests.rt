@@ -56,7 +56,7 @@ impl Objective for Numbered {
 // The leaf of scale 1 with one term closes at level 2 against the value 2, and not against 1.
 #[test]
 fn one_term(rt: HostRuntime) -> Result<(), Fail> {
-    let base = [RowName::Base(0), RowName::Base(1)];
+    let base = [Run { first: 0, count: 2 }];
     let mut terms = Items::new(rt.alloc());
     terms.push(Term {
         row: RowName::Base(0),

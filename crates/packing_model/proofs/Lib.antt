@@ -7,7 +7,8 @@ pub mod SumLemmas
 pub mod DistinctLemmas
 pub mod KeyLemmas
 pub mod BaseLemmas
-pub mod NameLemmas
+pub mod PlaceLemmas
+pub mod RunLemmas
 pub mod StepLemmas
 pub mod TableLemmas
 pub mod ModelLemmas

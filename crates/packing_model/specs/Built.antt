@@ -9,6 +9,8 @@ use Rattle.meeting_patterns.specs.Pattern.{patterns_of}
 use Rattle.duality.specs.declared.row.RowName.{RowName}
 use Rattle.duality.specs.declared.row.RowName.TheVariants.{Base, Cut, Level}
 use Rattle.duality.specs.Packing.{Packing, Weights}
+use Rattle.duality.specs.declared.row.Run.{Run}
+use Rattle.duality.specs.Runs.{rows_in, AreBelow}
 use Rattle.duality.specs.Sums.{member_row, distinct_rows}
 use Rattle.packing_model.specs.declared.row.Row.{Row}
 use Rattle.packing_model.specs.Rows.{base_rows, packing_of, weights_of}
@@ -44,3 +46,9 @@ pub record AreBaseRowsOf (k : Packing) (rows : List RowName) (i : ℕ) : Type 0 
   pub cut : (c : ℕ) → member_row (Cut c) rows ≡ false
   pub level : (j : ℕ) → member_row (Level j) rows ≡ false
   pub few : length rows ≤ 4000
+
+-- runs of exactly the base rows that the pattern stands in, each row once
+pub record AreBaseRunsOf (k : Packing) (runs : List Run) (i : ℕ) : Type 0 where
+  pub rows : AreBaseRowsOf k (rows_in runs) i
+  pub known : AreBelow k.base_len runs
+  pub low : AreBelow 4000 runs

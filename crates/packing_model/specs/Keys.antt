@@ -10,12 +10,12 @@ use Rattle.problem_core.specs.declared.limit.BuildFault.{BuildFault}
 use Rattle.problem_core.specs.declared.limit.BuildFault.TheVariants.{Limit as Over, Memory}
 use Rattle.meeting_patterns.specs.Pattern.{within, pattern_at, weights, patterns_of}
 use Rattle.meeting_patterns.specs.declared.pattern.Pattern.{Pattern}
-use Rattle.duality.specs.declared.row.RowName.{RowName}
-use Rattle.duality.specs.declared.row.RowName.TheVariants.{Base}
+use Rattle.duality.specs.declared.row.Run.{Run}
 use Rattle.packing_model.specs.declared.row.Row.{Row}
 use Rattle.packing_model.specs.declared.rows.RowTable.{RowTable}
 use Rattle.packing_model.specs.Rows.{base_rows}
-use Rattle.packing_model.specs.Built.{packing, rows_of, model_limit, AreBaseRowsOf}
+use Rattle.packing_model.specs.Built.{packing, rows_of, model_limit, AreBaseRunsOf}
+use Rattle.packing_model.specs.Runs.{merged, no_run}
 use Rattle.packing_model.specs.declared.row.Row.TheVariants.{Event, RoomSlot, CourseRoom}
 
 -- the keys below this are of events, or of rooms and slots
@@ -102,24 +102,28 @@ number_in n = if n == 0 then [] else (n - 1) ∷ []
 abbrev pub named : List ℕ → ℕ → List ℕ
 named numbers k = number_in (slice_index numbers k)
 
--- the names of the base rows of the pattern's keys
-abbrev pub names_of : Facts → List ℕ → Pattern → List RowName
-names_of p numbers x = map Base (flat_map (named numbers) (keys_of p x))
+-- the rows of the pattern's keys
+abbrev pub rows_of_keys : Facts → List ℕ → Pattern → List ℕ
+rows_of_keys p numbers x = flat_map (named numbers) (keys_of p x)
+
+-- the same as runs
+abbrev pub runs_of : Facts → List ℕ → Pattern → List Run
+runs_of p numbers x = merged no_run (rows_of_keys p numbers x)
 
 -- those of the first n patterns, one pattern after the other
-abbrev pub names_below : Facts → List ℕ → List Pattern → ℕ → List RowName
-names_below p numbers s zero = []
-names_below p numbers s (suc n) = names_below p numbers s n ++ names_of p numbers (pattern_at s n)
+abbrev pub runs_below : Facts → List ℕ → List Pattern → ℕ → List Run
+runs_below p numbers s zero = []
+runs_below p numbers s (suc n) = runs_below p numbers s n ++ runs_of p numbers (pattern_at s n)
 
--- the names of n patterns, and where those of the first m begin
-pub record AreNames (p : Facts) (numbers : List ℕ) (s : List Pattern) (n m : ℕ) (names : List RowName) (starts : List ℕ) : Type 0 where
-  pub names_are : names ≡ names_below p numbers s n
+-- the runs of n patterns, and where those of the first m begin
+pub record AreRuns (p : Facts) (numbers : List ℕ) (s : List Pattern) (n m : ℕ) (runs : List Run) (starts : List ℕ) : Type 0 where
+  pub runs_are : runs ≡ runs_below p numbers s n
   pub whole : length starts ≡ m
-  pub each : (i : ℕ) → i < m → slice_index starts i ≡ length (names_below p numbers s i)
+  pub each : (i : ℕ) → i < m → slice_index starts i ≡ length (runs_below p numbers s i)
 
 -- the list from one start to the next
-abbrev pub part_at : List RowName → List ℕ → ℕ → List RowName
-part_at names starts i = take (slice_index starts (i + 1) - slice_index starts i) (drop (slice_index starts i) names)
+abbrev pub part_at : List Run → List ℕ → ℕ → List Run
+part_at runs starts i = take (slice_index starts (i + 1) - slice_index starts i) (drop (slice_index starts i) runs)
 
 -- ---- what a model keeps
 
@@ -129,17 +133,17 @@ pub record AreWeights (p : Facts) (s : List Pattern) (n : ℕ) (table : List (Li
   pub each : (i : ℕ) → i < n → slice_index_or table i [] ≡ weights p (pattern_at s i)
   pub small : (i : ℕ) → i < n → AllByRecursion (IsWithin (pos 576000000)) (slice_index_or table i [])
 
--- the names of the i-th pattern's base rows lie between two starts
-pub record AreRowsAt (p : Facts) (names : List RowName) (starts : List ℕ) (i : ℕ) : Type 0 where
+-- the runs of the i-th pattern's base rows lie between two starts
+pub record AreRowsAt (p : Facts) (runs : List Run) (starts : List ℕ) (i : ℕ) : Type 0 where
   pub order : slice_index starts i ≤ slice_index starts (i + 1)
-  pub inside : slice_index starts (i + 1) ≤ length names
-  pub are : AreBaseRowsOf (packing p) (part_at names starts i) i
+  pub inside : slice_index starts (i + 1) ≤ length runs
+  pub are : AreBaseRunsOf (packing p) (part_at runs starts i) i
 
--- the problem's patterns and base rows, the weights, and the names of each pattern's base rows
-pub record IsModel (p : Facts) (patterns : List Pattern) (rows : List Row) (table : List (List ℤ)) (names : List RowName) (starts : List ℕ) : Type 0 where
+-- the problem's patterns and base rows, the weights, and the runs of each pattern's base rows
+pub record IsModel (p : Facts) (patterns : List Pattern) (rows : List Row) (table : List (List ℤ)) (runs : List Run) (starts : List ℕ) : Type 0 where
   pub patterns_are : patterns ≡ patterns_of p
   pub rows_are : rows ≡ rows_of p
   pub limit : model_limit p ≡ None
   pub weights_are : AreWeights p (patterns_of p) (length (patterns_of p)) table
   pub all_starts : length starts ≡ length (patterns_of p) + 1
-  pub names_are : (i : ℕ) → i < length (patterns_of p) → AreRowsAt p names starts i
+  pub runs_are : (i : ℕ) → i < length (patterns_of p) → AreRowsAt p runs starts i

@@ -243,7 +243,7 @@ fn cost_of<O: Objective>(at: &ObjectiveAt<O>, leaf: &Leaf, times: &[i128; 7], pa
     ensures { result ≡ reduced (packing at.now.model.now) (counted (O.weight at.now.objective.now) (O.floor at.now.objective.now)) (stage_at at.now.level at.now.targets.now at.now.best at.now.pool.now) leaf.now pattern }
 {
     sum_laws();
-    let base = at.model.base_rows(pattern);
+    let base = at.model.base_runs(pattern);
     let cuts = at.pool.cut_rows(pattern);
     reduced_cost(at.objective, at.level, leaf, times, base, cuts, pattern)
 }
@@ -336,7 +336,7 @@ fn cliques_at<O: Objective>(at: &ObjectiveAt<O>, terms: &[Term], pattern: u32) -
     ensures small { IsWithin (5000 * 10 ^ 24) result }
 {
     sum_laws();
-    let base = at.model.base_rows(pattern);
+    let base = at.model.base_runs(pattern);
     let cuts = at.pool.cut_rows(pattern);
     priced_cliques(terms, base, cuts)
 }

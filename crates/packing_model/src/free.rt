@@ -3,6 +3,8 @@ ghost use Rattle.std.specs.List.{list_all, list_any};
 ghost use Rattle.numbers.specs.Sums.{member};
 ghost use Rattle.duality.specs.Packing.{is_free, coefficient};
 ghost use Rattle.duality.specs.Sums.{member_row};
+ghost use Rattle.duality.specs.Runs.{rows_from, rows_in};
+ghost use Rattle.duality.specs.declared.row.RowName.TheVariants as rows;
 ghost use Rattle.meeting_patterns.specs.Pattern.{patterns_of};
 ghost use Rattle.packing_model.specs.Built.{packing, measured};
 ghost use Rattle.packing_model.specs.Cuts.{IsPoolOf};
@@ -11,7 +13,7 @@ ghost use Rattle.packing_model.specs.Nodes.{IsFixingOf, fixed_of, stage_of, IsRo
 use crate::fixing::Fixing;
 use crate::model::Model;
 use crate::pool::Pool;
-use duality::{RowName, is_same};
+use duality::{RowName, Run, is_same};
 
 /// Whether the pattern is in neither list of the fixing and clashes with none that is taken.
 pub fn is_free(m: &Model, f: &Fixing, pattern: u32) -> bool
@@ -53,7 +55,7 @@ pub fn coefficient(m: &Model, pool: &Pool, row: RowName, pattern: u32) -> i64
     ensures { result ≡ coefficient (packing m.now) (measured m.now) (stage_of pool.now) row pattern }
 {
     match row {
-        RowName::Base(_) => i64::from(names(m.base_rows(pattern), row)),
+        RowName::Base(base) => i64::from(covers(m.base_runs(pattern), base)),
         RowName::Cut(_) => i64::from(names(pool.cut_rows(pattern), row)),
         RowName::Level(level) => m.weight(level, pattern),
     }
@@ -69,4 +71,23 @@ fn names(rows: &[RowName], row: RowName) -> bool
         }
     }
     false
+}
+
+// Whether the base row is in one of the runs.
+fn covers(runs: &[Run], row: u32) -> bool
+    ensures { result ≡ member_row (rows.Base row) (rows_in runs.now) }
+{
+    for run in runs {
+        if is_in(*run, row) {
+            return true;
+        }
+    }
+    false
+}
+
+// Whether the base row is in the run.
+fn is_in(run: Run, row: u32) -> bool
+    ensures { result ≡ member_row (rows.Base row) (rows_from run.first run.count) }
+{
+    run.first <= row && row - run.first < run.count
 }

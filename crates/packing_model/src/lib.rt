@@ -9,15 +9,15 @@ mod keys;
 mod laws;
 mod measured;
 mod model;
-mod names;
 mod point;
 mod pool;
 mod row;
 mod rows;
+mod runs;
 
 pub use close::{At, ObjectiveAt, close_leaf, leaf_closes};
 pub use cut::{Cut, CutFault};
-pub use duality::{Leaf, LeafFault, RowName, Term};
+pub use duality::{Leaf, LeafFault, RowName, Run, Term};
 pub use fixing::Fixing;
 pub use free::{coefficient, is_free};
 pub use laws::packing_laws;

@@ -3,12 +3,12 @@ ghost use Rattle.duality.specs.Sums.{IsWithin};
 ghost use Rattle.problem_core.specs.Valid.{IsProblem};
 ghost use Rattle.meeting_patterns.specs.Pattern.{patterns_of, ArePatterns};
 ghost use Rattle.packing_model.specs.Rows.{row_at};
-ghost use Rattle.packing_model.specs.Built.{BuildsModel, rows_of, packing, measured, AreBaseRowsOf};
+ghost use Rattle.packing_model.specs.Built.{BuildsModel, rows_of, packing, measured, AreBaseRunsOf};
 
-use crate::names::{name_table, weight_table};
 use crate::row::Row;
 use crate::rows::row_table;
-use duality::RowName;
+use crate::runs::{run_table, weight_table};
+use duality::Run;
 use meeting_patterns::{PatternSet, clash, pattern_laws};
 use problem_core::{BuildFault, Problem};
 use std::alloc::Global;
@@ -21,7 +21,7 @@ pub struct Model {
     patterns: PatternSet,
     rows: Items<Row>,
     weights: Vec<[i64; 6]>,
-    names: Vec<RowName>,
+    runs: Vec<Run>,
     starts: Vec<usize>,
 }
 
@@ -33,7 +33,7 @@ impl std::marker::Model for Model {
 
     ghost view = { λ m. m.problem };
 
-    ghost invariant = { λ m. IsModel m.problem m.patterns m.rows m.weights.items m.names.items m.starts.items };
+    ghost invariant = { λ m. IsModel m.problem m.patterns m.rows m.weights.items m.runs.items m.starts.items };
 }
 
 impl Model {
@@ -48,14 +48,14 @@ impl Model {
         let patterns = PatternSet::all(alloc, &p)?;
         let table = row_table(alloc, &p, &patterns)?;
         let weights = weight_table(alloc, &p, &patterns)?;
-        let named = name_table(alloc, &p, &patterns, &table.numbers)?;
+        let placed = run_table(alloc, &p, &patterns, &table.numbers)?;
         Ok(Model {
             problem: p,
             patterns,
             rows: table.rows,
             weights,
-            names: named.names,
-            starts: named.starts,
+            runs: placed.runs,
+            starts: placed.starts,
         })
     }
 
@@ -92,14 +92,15 @@ impl Model {
         self.rows.as_slice()[row as usize]
     }
 
-    /// The base rows that the pattern stands in, each once.
-    pub fn base_rows(&self, pattern: u32) -> &[RowName]
+    /// The base rows that the pattern stands in, each once, as runs of rows that follow one another. A
+    /// meeting of several slots in a room stands in one run.
+    pub fn base_runs(&self, pattern: u32) -> &[Run]
         requires { pattern < length (patterns_of self.now) }
-        ensures { AreBaseRowsOf (packing self.now) result.now pattern }
+        ensures { AreBaseRunsOf (packing self.now) result.now pattern }
     {
         let first = self.starts[pattern as usize];
         let end = self.starts[pattern as usize + 1];
-        &self.names[first..end]
+        &self.runs[first..end]
     }
 
     /// The weight of the pattern at the level, which is the number of a measure.

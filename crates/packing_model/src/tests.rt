@@ -263,11 +263,11 @@ fn base_rows(alloc: Global, model: &Model) -> Result<Items<Row>, AllocError> {
     Ok(rows)
 }
 
-/// How many base rows each pattern stands in, and its utilisation.
+/// In how many runs the base rows of each pattern lie, and its utilisation.
 fn by_pattern(alloc: Global, model: &Model) -> Result<Items<(usize, i64)>, AllocError> {
     let mut found = Items::new(alloc);
     for pattern in 0..model.patterns().len() {
-        found.push((model.base_rows(pattern).len(), model.weight(3, pattern)))?;
+        found.push((model.base_runs(pattern).len(), model.weight(3, pattern)))?;
     }
     Ok(found)
 }
@@ -289,8 +289,10 @@ fn tells_clashes_rows_and_weights(rt: HostRuntime) -> Result<(), Fail> {
     assert_eq!(rt; base_rows(alloc, &model)?.as_slice(), rows.as_slice());
     assert_eq!(rt;
         by_pattern(alloc, &model)?.as_slice(),
-        [(2, 1000), (3, 500), (3, 500), (5, 1000)].as_slice()
+        [(2, 1000), (3, 500), (2, 500), (4, 1000)].as_slice()
     );
+    let second = [Run { first: 1, count: 1 }, Run { first: 4, count: 2 }];
+    assert_eq!(rt; model.base_runs(2), second.as_slice());
     Ok(())
 }
 

@@ -5,6 +5,7 @@ use mir.Syntax.{w128}
 use mir.Val.{to_z, of_z}
 use Rattle.numbers.specs.Sums.{total}
 use Rattle.duality.specs.Packing.{Weights, level_coefficient}
+use Rattle.duality.specs.Runs.{rows_in}
 use Rattle.duality.specs.Sums.{IsWithin, times_of, level_sum}
 use Rattle.duality.proofs.PricedLaws.{plain_within, plain_sum, within_sum, plain_gain, small_within, one_pattern}
 use Rattle.duality.proofs.costs.reduced_cost.Goals as goal
@@ -34,13 +35,13 @@ returns g c =
     let gain : to_z w128 (of_z w128 c.product-gain.result) ≡ c.args.leaf.now.scale *ℤ g.O.Objective.weight c.args.objective.now c.args.level c.args.pattern =
     plain_gain c.args.leaf.now.scale c.weight_of.result c.product-gain.result (small_within (10 ^ 24) c.args.leaf.now.scale c.requires.scale) small c.product-gain.ensures.small c.product-gain.ensures.value
     ∙ ap (λ z. c.args.leaf.now.scale *ℤ z) c.weight_of.ensures.value in
-    let cost : to_z w128 (of_z w128 c.added-cost.result) ≡ total (times_of c.args.leaf.now.terms) (c.args.base.now ++ c.args.cuts.now) +ℤ level_sum c.args.leaf.now.terms (λ j. level_coefficient w j c.args.pattern) =
+    let cost : to_z w128 (of_z w128 c.added-cost.result) ≡ total (times_of c.args.leaf.now.terms) (rows_in c.args.base.now ++ c.args.cuts.now) +ℤ level_sum c.args.leaf.now.terms (λ j. level_coefficient w j c.args.pattern) =
     cost_is c.priced_levels.result c.priced_cliques.result c.added-cost.result _ _ c.priced_levels.ensures.small c.priced_cliques.ensures.small c.added-cost.ensures
     (c.priced_levels.ensures.value ∙ one_pattern c.args.leaf.now.terms c.args.times.now w c.args.pattern c.requires.times)
-    (c.priced_cliques.ensures.value ∙ ap (λ ts. total (times_of ts) (c.args.base.now ++ c.args.cuts.now)) c.as_slice.ensures) in
+    (c.priced_cliques.ensures.value ∙ ap (λ ts. total (times_of ts) (rows_in c.args.base.now ++ c.args.cuts.now)) c.as_slice.ensures) in
     finish c.lessened.result (to_z w128 (of_z w128 c.product-gain.result)) (to_z w128 (of_z w128 c.added-cost.result))
     (c.args.leaf.now.scale *ℤ g.O.Objective.weight c.args.objective.now c.args.level c.args.pattern)
-    (total (times_of c.args.leaf.now.terms) (c.args.base.now ++ c.args.cuts.now) +ℤ level_sum c.args.leaf.now.terms (λ j. level_coefficient w j c.args.pattern))
+    (total (times_of c.args.leaf.now.terms) (rows_in c.args.base.now ++ c.args.cuts.now) +ℤ level_sum c.args.leaf.now.terms (λ j. level_coefficient w j c.args.pattern))
     c.lessened.ensures gain cost
     (plain_within (4 * 10 ^ 36) (10 ^ 37) c.product-gain.result (lit≤ tt) (lit< tt) c.product-gain.ensures.small)
     (rw (plain_sum (7 * (4 * 10 ^ 36)) (5000 * 10 ^ 24) (10 ^ 38) c.priced_levels.result c.priced_cliques.result c.added-cost.result c.priced_levels.ensures.small c.priced_cliques.ensures.small (lit≤ tt) (lit< tt) c.added-cost.ensures)

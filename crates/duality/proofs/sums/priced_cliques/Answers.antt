@@ -1,6 +1,7 @@
 use Rattle.std.proofs.Common.{ℕ, ◌∙◌, ◌+◌, ◌*◌, ◌^◌, ◌≤◌, length, ap, arith, refl, sym, lit<}
 use Rattle.std.specs.Prelude.{◌+ℤ◌}
 use Rattle.numbers.specs.Sums.{total}
+use Rattle.duality.specs.Runs.{rows_in}
 use Rattle.duality.specs.Sums.{times_of}
 use Rattle.duality.proofs.PricedLaws.{total-append, plain_sum}
 use Rattle.duality.proofs.sums.priced_cliques.Goals as goal
@@ -10,8 +11,8 @@ few_rows m n p q = omega arith
 
 pub returns-clause-value : goal.returns-clause-value
 returns-clause-value c =
-    plain_sum (length c.args.base.now * 10 ^ 24) (length c.args.cuts.now * 10 ^ 24) (5000 * 10 ^ 24) c.priced.result c.priced-2.result _
-    c.priced.ensures.small c.priced-2.ensures.small (few_rows (length c.args.base.now) (length c.args.cuts.now) c.requires.few_base c.requires.few_cuts) (lit< tt) refl
-    ∙ ap (λ z. z +ℤ c.priced-2.result) c.priced.ensures.value
-    ∙ ap (λ z. total (times_of c.args.terms.now) c.args.base.now +ℤ z) c.priced-2.ensures.value
-    ∙ sym (total-append (times_of c.args.terms.now) c.args.base.now c.args.cuts.now)
+    plain_sum (length (rows_in c.args.base.now) * 10 ^ 24) (length c.args.cuts.now * 10 ^ 24) (5000 * 10 ^ 24) c.priced_runs.result c.priced.result _
+    c.priced_runs.ensures.small c.priced.ensures.small (few_rows (length (rows_in c.args.base.now)) (length c.args.cuts.now) c.requires.few_base c.requires.few_cuts) (lit< tt) refl
+    ∙ ap (λ z. z +ℤ c.priced.result) c.priced_runs.ensures.value
+    ∙ ap (λ z. total (times_of c.args.terms.now) (rows_in c.args.base.now) +ℤ z) c.priced.ensures.value
+    ∙ sym (total-append (times_of c.args.terms.now) (rows_in c.args.base.now) c.args.cuts.now)

@@ -1,5 +1,6 @@
 use Rattle.std.proofs.Common.{◌≡◌, ◌*◌, ◌^◌, ◌∙◌, ◌++◌, lit<}
 use Rattle.duality.specs.Packing.{Packing, Weights, Stage}
+use Rattle.duality.specs.Runs.{rows_in}
 use Rattle.packing_model.specs.Built.{packing}
 use Rattle.packing_model.specs.Nodes.{stage_at}
 use Rattle.packing_model.specs.Closing.{counted}
@@ -14,5 +15,5 @@ returns-clause-value g c =
     let s : Stage = stage_at c.args.at.now.level c.args.at.now.targets.now c.args.at.now.best c.args.at.now.pool.now in
     plain (5000 * 10 ^ 24) c.priced_cliques.result c.priced_cliques.ensures.small (lit< tt)
     ∙ c.priced_cliques.ensures.value
-    ∙ c.sum_laws.ensures.cliques k w s c.args.terms.now (c.base_rows-base.result.now ++ c.cut_rows-cuts.result.now) c.args.pattern c.requires.there
-    (rows_join k s c.base_rows-base.result.now c.cut_rows-cuts.result.now c.args.pattern c.base_rows-base.ensures c.cut_rows-cuts.ensures)
+    ∙ c.sum_laws.ensures.cliques k w s c.args.terms.now (rows_in c.base_runs-base.result.now ++ c.cut_rows-cuts.result.now) c.args.pattern c.requires.there
+    (rows_join k s (rows_in c.base_runs-base.result.now) c.cut_rows-cuts.result.now c.args.pattern c.base_runs-base.ensures.rows c.cut_rows-cuts.ensures)

@@ -3,6 +3,7 @@ use Rattle.std.specs.Prelude.{FitsSigned, ◌-ℤ◌, ◌*ℤ◌}
 use Rattle.std.proofs.lemmas.Int.{to_z-of_z}
 use mir.Syntax.{w128}
 use Rattle.duality.specs.Packing.{Packing, Weights, Stage, Fixing}
+use Rattle.duality.specs.Runs.{rows_in}
 use Rattle.packing_model.specs.Built.{packing}
 use Rattle.packing_model.specs.Nodes.{fixed_of, stage_at}
 use Rattle.packing_model.specs.Closing.{counted}
@@ -22,8 +23,8 @@ returns g c =
     let w : Weights = counted (g.O.Objective.weight c.args.at.now.objective.now) (g.O.Objective.floor c.args.at.now.objective.now) in
     let s : Stage = stage_at c.args.at.now.level c.args.at.now.targets.now c.args.at.now.best c.args.at.now.pool.now in
     let few : s.level ≤ 7 = omega (arith, c.requires.high, g.met.O.Objective.few_levels c.args.at.now.objective.now) in
-    let is = c.sum_laws.ensures.priced k w s c.args.leaf.now.terms (c.base_rows-base.result.now ++ c.cut_rows-cuts.result.now) c.args.pattern c.requires.there few
-    (rows_join k s c.base_rows-base.result.now c.cut_rows-cuts.result.now c.args.pattern c.base_rows-base.ensures c.cut_rows-cuts.ensures) in
+    let is = c.sum_laws.ensures.priced k w s c.args.leaf.now.terms (rows_in c.base_runs-base.result.now ++ c.cut_rows-cuts.result.now) c.args.pattern c.requires.there few
+    (rows_join k s (rows_in c.base_runs-base.result.now) c.cut_rows-cuts.result.now c.args.pattern c.base_runs-base.ensures.rows c.cut_rows-cuts.ensures) in
     let fits : FitsSigned w128 c.reduced_cost.result = search rules in
     to_z-of_z w128 c.reduced_cost.result fits
     ∙ c.reduced_cost.ensures

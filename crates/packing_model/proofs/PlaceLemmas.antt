@@ -1,9 +1,9 @@
--- The names of a pattern's base rows, and where they lie.
+-- The base rows of a pattern, and where its runs lie.
 use Rattle.std.proofs.Common.{ℕ, ◌≡◌, ◌+◌, ◌-◌, ◌<◌, ◌≤◌, zero, suc, inl, inr, Bool, true, false, ◌||◌, refl, arith, ap, ap₂, sym, ◌∙◌, List, [], ◌∷◌, ◌++◌, length, get_or, map, take, drop, append_assoc}
 use Rattle.std.specs.Prelude.{◌==◌, slice_index}
 use Rattle.std.specs.List.{list_any, flat_map}
-use Rattle.std.proofs.lemmas.List.{append-nil, length-append, length-map, get_or-map, take_at, drop_at}
-use Rattle.std.proofs.lemmas.Bool.{cases_Bool, cases_eq, or_left, or_right, eq-eqb, eqb-true, ne_eqb, true≢false, cond-true, cond-false}
+use Rattle.std.proofs.lemmas.List.{append-nil, length-append, length-map, get_or-map, take_at, drop_at, get_or_past}
+use Rattle.std.proofs.lemmas.Bool.{cases_Bool, cases_eq, cases_lt, or_left, or_right, eq-eqb, eqb-true, ne_eqb, true≢false, cond-true, cond-false}
 use Rattle.numbers.specs.Sums.{member, distinct}
 use Rattle.problem_core.specs.Facts.{Facts}
 use Rattle.problem_core.specs.Courses.{passing}
@@ -12,12 +12,13 @@ use Rattle.problem_core.specs.Valid.{IsProblem}
 use Rattle.meeting_patterns.specs.Pattern.{ArePatterns, pattern_at}
 use Rattle.meeting_patterns.specs.declared.pattern.Pattern.{Pattern}
 use Rattle.duality.specs.declared.row.RowName.{RowName}
+use Rattle.duality.specs.declared.row.Run.{Run}
 use Rattle.duality.specs.declared.row.RowName.TheVariants.{Base, Cut, Level}
 use Rattle.duality.specs.Sums.{member_row, distinct_rows}
 use Rattle.packing_model.specs.declared.row.Row.TheVariants.{Event}
 use Rattle.packing_model.specs.Rows.{stands_in, base_rows, row_at, packing_of}
 use Rattle.packing_model.specs.Built.{AreBaseRowsOf}
-use Rattle.packing_model.specs.Keys.{key_end, row_of, keys_of, makes_row, number_in, AreNumbers, named, names_of, names_below, AreNames, part_at}
+use Rattle.packing_model.specs.Keys.{key_end, row_of, keys_of, makes_row, number_in, AreNumbers, named, rows_of_keys, runs_of, runs_below, AreRuns, part_at}
 use Rattle.packing_model.proofs.DistinctLemmas.{or_none, member-any, member-flat, flat_member, distinct-flat, few}
 use Rattle.packing_model.proofs.KeyLemmas.{keys-row, keys_known, keys-distinct}
 use Rattle.packing_model.proofs.BaseLemmas.{rows_listed}
@@ -87,11 +88,11 @@ any_same f g [] h = refl
 any_same f g (x ∷ xs) h =
     ap₂ (λ a b. a || b) (h x (or_left (x == x) (member x xs) (eq-eqb x x refl))) (any_same f g xs (λ k m. h k (or_right (x == k) (member k xs) m)))
 
--- ---- the names of a pattern
+-- ---- the rows of a pattern
 
-pub names_are : (p : Facts) → IsProblem p → (s : List Pattern) (numbers : List ℕ) (i : ℕ) → ArePatterns p s → AreNumbers (makes_row p s) (key_end p) numbers → length (base_rows p s) ≤ 4000 → i < length s
-    → AreBaseRowsOf (packing_of p s) (names_of p numbers (pattern_at s i)) i
-names_are p is s numbers i are numbered short l =
+pub rows_are : (p : Facts) → IsProblem p → (s : List Pattern) (numbers : List ℕ) (i : ℕ) → ArePatterns p s → AreNumbers (makes_row p s) (key_end p) numbers → length (base_rows p s) ≤ 4000 → i < length s
+    → AreBaseRowsOf (packing_of p s) (map Base (rows_of_keys p numbers (pattern_at s i))) i
+rows_are p is s numbers i are numbered short l =
     let x = pattern_at s i in
     let pattern = are.each i l in
     let test = makes_row p s in
@@ -128,30 +129,55 @@ names_are p is s numbers i are numbered short l =
       | inr some ↦ ap distinct (cond-false (slice_index numbers k == 0) [] ((slice_index numbers k - 1) ∷ []) some)
     ]
 
--- ---- where the names of each pattern lie
+-- each of them is a base row
+pub rows_known : (p : Facts) → IsProblem p → (s : List Pattern) (numbers : List ℕ) (i r : ℕ) → ArePatterns p s → AreNumbers (makes_row p s) (key_end p) numbers → i < length s
+    → member r (rows_of_keys p numbers (pattern_at s i)) ≡ true → r < length (base_rows p s)
+rows_known p is s numbers i r are numbered l h =
+    let x = pattern_at s i in
+    let test = makes_row p s in
+    let n = key_end p in
+    let w = flat_member r (named numbers) (keys_of p x) h in
+    let known = keys_known p is x (are.each i l) w.0 w.1 in
+    omega (arith, (named_key test n numbers w.0 r numbered known w.2).below, length-map (passing test n) (row_of p), ap length (rows_listed p is s are.each))
 
-names_split : (p : Facts) (numbers : List ℕ) (s : List Pattern) (i n : ℕ) → i < n → (rest : List RowName) × (names_below p numbers s n ≡ (names_below p numbers s i ++ names_of p numbers (pattern_at s i)) ++ rest)
-names_split p numbers s i zero l = absurd (omega (arith, l))
-names_split p numbers s i (suc n) l = elim (cases_eq i n) [
-  | inl same ↦ ([], rw same (sym (append-nil (names_below p numbers s n ++ names_of p numbers (pattern_at s n)))))
+numbers_low : (test : ℕ → Bool) (n : ℕ) (numbers : List ℕ) → AreNumbers test n numbers → length (passing test n) ≤ 4000 → (k : ℕ) → slice_index numbers k ≤ 4000
+numbers_low test n numbers are few k = elim (cases_lt k n) [
+  | inr more ↦ let none : slice_index numbers k ≡ 0 = get_or_past numbers k 0 (omega (arith, are.whole, more)) in omega (arith, none)
+  | inl less ↦ elim (cases_Bool (test k)) [
+    | inr miss ↦ omega (arith, are.each k less ∙ cond-false (test k) (length (passing test k) + 1) 0 miss)
+    | inl hit ↦ omega (arith, are.each k less ∙ cond-true (test k) (length (passing test k) + 1) 0 hit, (at_place test n k less hit).0, few)
+  ]
+]
+
+pub numbers_few : (p : Facts) → IsProblem p → (s : List Pattern) (numbers : List ℕ) → ArePatterns p s → AreNumbers (makes_row p s) (key_end p) numbers → length (base_rows p s) ≤ 4000 → (k : ℕ) → slice_index numbers k ≤ 4000
+numbers_few p is s numbers are numbered short =
+    numbers_low (makes_row p s) (key_end p) numbers numbered
+    (omega (arith, length-map (passing (makes_row p s) (key_end p)) (row_of p), ap length (rows_listed p is s are.each), short))
+
+-- ---- where the runs of each pattern lie
+
+runs_split : (p : Facts) (numbers : List ℕ) (s : List Pattern) (i n : ℕ) → i < n → (rest : List Run) × (runs_below p numbers s n ≡ (runs_below p numbers s i ++ runs_of p numbers (pattern_at s i)) ++ rest)
+runs_split p numbers s i zero l = absurd (omega (arith, l))
+runs_split p numbers s i (suc n) l = elim (cases_eq i n) [
+  | inl same ↦ ([], rw same (sym (append-nil (runs_below p numbers s n ++ runs_of p numbers (pattern_at s n)))))
   | inr other ↦
-      let front = names_split p numbers s i n (omega (arith, l, less i n l other)) in (
-        front.0 ++ names_of p numbers (pattern_at s n),
-        ap (λ xs. xs ++ names_of p numbers (pattern_at s n)) front.1 ∙ append_assoc (names_below p numbers s i ++ names_of p numbers (pattern_at s i)) front.0 (names_of p numbers (pattern_at s n)),
+      let front = runs_split p numbers s i n (omega (arith, l, less i n l other)) in (
+        front.0 ++ runs_of p numbers (pattern_at s n),
+        ap (λ xs. xs ++ runs_of p numbers (pattern_at s n)) front.1 ∙ append_assoc (runs_below p numbers s i ++ runs_of p numbers (pattern_at s i)) front.0 (runs_of p numbers (pattern_at s n)),
       )
 ]
   where
     less : (i n : ℕ) → i < suc n → (i ≡ n → ⊥) → i < n
     less i n l other = omega arith
 
-pub record ArePlaced (names : List RowName) (starts : List ℕ) (i : ℕ) (own : List RowName) : Type 0 where
+pub record ArePlaced (runs : List Run) (starts : List ℕ) (i : ℕ) (own : List Run) : Type 0 where
   pub order : slice_index starts i ≤ slice_index starts (i + 1)
-  pub within : slice_index starts (i + 1) ≤ length names
-  pub part : part_at names starts i ≡ own
+  pub within : slice_index starts (i + 1) ≤ length runs
+  pub part : part_at runs starts i ≡ own
 
-placed : (a b rest : List RowName) (names : List RowName) (x y : ℕ) → names ≡ (a ++ b) ++ rest → x ≡ length a → y ≡ length (a ++ b) → (x ≤ y) × (y ≤ length names) × (take (y - x) (drop x names) ≡ b)
-placed a b rest names x y e f g =
-    let all : length names ≡ length a + length b + length rest = omega (arith, ap length e, length-append (a ++ b) rest, length-append a b) in
+placed : (a b rest : List Run) (runs : List Run) (x y : ℕ) → runs ≡ (a ++ b) ++ rest → x ≡ length a → y ≡ length (a ++ b) → (x ≤ y) × (y ≤ length runs) × (take (y - x) (drop x runs) ≡ b)
+placed a b rest runs x y e f g =
+    let all : length runs ≡ length a + length b + length rest = omega (arith, ap length e, length-append (a ++ b) rest, length-append a b) in
     let both = length-append a b in
     let wide : y - x ≡ length b = omega (arith, f, g, both) in (
       omega (arith, f, g, both),
@@ -161,11 +187,11 @@ placed a b rest names x y e f g =
           ∙ take_at b rest (length b) refl,
     )
 
-pub names_placed : (p : Facts) (numbers : List ℕ) (s : List Pattern) (n : ℕ) (names : List RowName) (starts : List ℕ) (i : ℕ) → AreNames p numbers s n (n + 1) names starts → i < n → ArePlaced names starts i (names_of p numbers (pattern_at s i))
-names_placed p numbers s n names starts i are l =
-    let split = names_split p numbers s i n l in
-    let next : names_below p numbers s (i + 1) ≡ names_below p numbers s i ++ names_of p numbers (pattern_at s i) = ap (names_below p numbers s) (one_more i) in
-    let at = placed (names_below p numbers s i) (names_of p numbers (pattern_at s i)) split.0 names (slice_index starts i) (slice_index starts (i + 1)) (are.names_are ∙ split.1) (are.each i (omega (arith, l))) (are.each (i + 1) (omega (arith, l)) ∙ ap length next) in
+pub runs_placed : (p : Facts) (numbers : List ℕ) (s : List Pattern) (n : ℕ) (runs : List Run) (starts : List ℕ) (i : ℕ) → AreRuns p numbers s n (n + 1) runs starts → i < n → ArePlaced runs starts i (runs_of p numbers (pattern_at s i))
+runs_placed p numbers s n runs starts i are l =
+    let split = runs_split p numbers s i n l in
+    let next : runs_below p numbers s (i + 1) ≡ runs_below p numbers s i ++ runs_of p numbers (pattern_at s i) = ap (runs_below p numbers s) (one_more i) in
+    let at = placed (runs_below p numbers s i) (runs_of p numbers (pattern_at s i)) split.0 runs (slice_index starts i) (slice_index starts (i + 1)) (are.runs_are ∙ split.1) (are.each i (omega (arith, l))) (are.each (i + 1) (omega (arith, l)) ∙ ap length next) in
     record { order = at.0; within = at.1; part = at.2 }
   where
     one_more : (i : ℕ) → i + 1 ≡ suc i
