@@ -1,12 +1,10 @@
 -- Masks and their bits, and the places of a course's events.
-use Rattle.std.proofs.Common.{ℕ, ◌≡◌, ◌+◌, ◌-◌, ◌*◌, ◌/◌, ◌%◌, ◌^◌, ◌<◌, ◌≤◌, inl, inr, zero, suc, Bool, true, false, refl, arith, ap, sym, ◌∙◌, cond, List, [], ◌∷◌, ◌++◌, length, get_or}
+use Rattle.std.proofs.Common.{ℕ, ◌≡◌, ◌+◌, ◌*◌, ◌/◌, ◌%◌, ◌^◌, ◌<◌, ◌≤◌, inl, inr, zero, suc, Bool, true, false, refl, arith, ap, sym, ◌∙◌, cond}
 use Rattle.std.specs.Prelude.{◌==◌}
-use Rattle.std.proofs.lemmas.List.{length_push, get_or_append_left, get_or_push}
 use Rattle.std.proofs.lemmas.Bool.{cases_eq, cases_Bool, eqb-true, eqb-false, eq-eqb, true≢false}
 use Rattle.std.specs.Int.{bit_at}
 use Rattle.std.proofs.lemmas.Nat.Bits.{bit_at_lowest, bit_at-suc}
 use Rattle.std.proofs.Math.Nat.{pow-suc, pow-le-pow_right}
-use Rattle.problem_core.specs.Courses.{passing}
 use Rattle.meeting_patterns.specs.Pattern.{has_bit}
 
 last_bit : (m n : ℕ) → (m % 2 == 1) ≡ (n % 2 == 1) → m % 2 ≡ n % 2
@@ -18,7 +16,7 @@ last_bit m n h = elim (cases_Bool (m % 2 == 1)) [
       omega arith
 ]
 
-pow_two : (k : ℕ) → 2 ^ suc k ≡ 2 * 2 ^ k
+pub pow_two : (k : ℕ) → 2 ^ suc k ≡ 2 * 2 ^ k
 pow_two k = omega (arith, pow-suc 2 k)
 
 -- two numbers of k bits with the same bits are one
@@ -56,7 +54,7 @@ mask_bits test (suc k) (suc j) l =
     ] in
     ap (λ x. has_bit x j) half ∙ mask_bits (λ i. test (suc i)) k j (omega arith)
 
-no_bits : (j : ℕ) → has_bit 0 j ≡ false
+pub no_bits : (j : ℕ) → has_bit 0 j ≡ false
 no_bits zero = refl
 no_bits (suc j) = no_bits j
 
@@ -79,3 +77,9 @@ has_bit-is n (suc j) = ap (λ x. x == 1) (bit_at-suc n j) ∙ has_bit-is (n / 2)
 
 pub pow_few : (k : ℕ) → k ≤ 12 → 2 ^ k ≤ 4096
 pow_few k l = let h : 2 ^ k ≤ 2 ^ 12 = pow-le-pow_right (omega arith) l in h
+
+pub bit_few : (k : ℕ) → k < 12 → (1 * 2 ^ k) % 65536 ≤ 2048
+bit_few k l =
+    let m : k ≤ 11 = omega arith in
+    let small : 2 ^ k ≤ 2 ^ 11 = pow-le-pow_right (omega arith) m in
+    omega arith

@@ -1,8 +1,8 @@
 -- What a legal choice chooses: the patterns don't clash, and each event with a room stands in one of them.
-use Rattle.std.proofs.Common.{ℕ, ◌≡◌, ◌≢◌, ◌+◌, ◌-◌, ◌<◌, ◌≤◌, ◌^◌, inl, inr, zero, suc, Bool, true, false, not, ◌&&◌, ◌||◌, refl, arith, ap, ap₂, sym, ◌∙◌, cond, List, [], ◌∷◌, length, get_or, subst}
+use Rattle.std.proofs.Common.{ℕ, ◌≡◌, ◌≢◌, ◌+◌, ◌-◌, ◌<◌, inl, inr, Bool, true, false, not, ◌&&◌, refl, arith, ap, sym, ◌∙◌, List, length, get_or, subst}
 use Rattle.std.specs.Prelude.{◌==◌, IsTrue}
 use Rattle.std.proofs.lemmas.Bool.{cases_eq, cases_lt, cases_Bool, and_parts, and_from, and_left, and_right, or_cases, or_from, not-true, not-false, not_from_true, not_from_false, eq-eqb, eqb-true, ne_eqb, true≢false, false_from_ne_true}
-use Rattle.numbers.specs.Below.{any_below, first_from, none_below, any_below_at, first_from_finds}
+use Rattle.numbers.specs.Below.{any_below, first_from, none_below, first_from_finds}
 use Rattle.problem_core.specs.Facts.{Facts, suits, share_slot, course_of}
 use Rattle.problem_core.specs.Choice.{entry, IsLegal}
 use Rattle.problem_core.specs.Courses.{is_of_course, place_of, meetings_of, events_of, passing}

@@ -1,5 +1,6 @@
 pub mod BitLemmas
 pub mod ListLemmas
+pub mod MaskLemmas
 pub mod ChosenLemmas
 pub mod SumLemmas
 pub mod WeighLemmas

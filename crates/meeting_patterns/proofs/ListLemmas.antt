@@ -1,32 +1,15 @@
 -- The list of all patterns: a step at a time, and that it holds each pattern once, in order.
-use Rattle.std.proofs.Common.{ℕ, ◌≡◌, ◌≢◌, ◌+◌, ◌-◌, ◌<◌, ◌≤◌, ◌^◌, ◌⊎◌, inl, inr, zero, suc, Bool, true, false, not, ◌&&◌, ◌||◌, refl, arith, ap, ap₂, sym, ◌∙◌, cond, add-one, List, [], ◌∷◌, ◌++◌, length, get_or, subst}
-use Rattle.std.specs.Prelude.{◌==◌, IsTrue, map}
-use Rattle.std.specs.List.{list_any}
-use Rattle.std.proofs.lemmas.List.{get_or-map, length-map, length-append, get_or_append_left, get_or-append_right, get_or-append-add, append_assoc, map-append}
-use Rattle.std.proofs.lemmas.Bool.{cases_eq, cases_lt, cases_Bool, and_parts, and_from, and_right, and_left, not-true, not-false, not_from_true, not_from_false, eqb-true, eqb-false, ne_eqb, true≢false, false_from_ne_true}
+use Rattle.std.proofs.Common.{ℕ, ◌≡◌, ◌≢◌, ◌+◌, ◌-◌, ◌<◌, ◌≤◌, ◌^◌, ◌⊎◌, inl, inr, zero, suc, Bool, true, not, ◌&&◌, refl, arith, ap, ap₂, sym, ◌∙◌, List, [], ◌∷◌, ◌++◌, length, get_or, subst}
+use Rattle.std.specs.Prelude.{◌==◌, map}
+use Rattle.std.proofs.lemmas.List.{get_or-map, length-map, length-append, get_or_append_left, get_or-append_right, get_or-append-add}
+use Rattle.std.proofs.lemmas.Bool.{cases_eq, cases_lt, cases_Bool, and_parts, and_from, and_right, and_left, not-true, not-false, not_from_true, not_from_false, eqb-false, ne_eqb}
 use Rattle.numbers.specs.Below.{any_below, none_below}
 use Rattle.problem_core.specs.Below.{any_below_none}
 use Rattle.problem_core.specs.Facts.{Facts, suits}
-use Rattle.problem_core.specs.Courses.{passing, is_of_course, place_of, meetings_of, events_of}
-use Rattle.problem_core.specs.Passing.{passing-hit, passing-miss, any_passing, IsNth, nth_is, at_place}
-use Rattle.meeting_patterns.specs.Pattern.{has_bit, within, IsPattern, IsBefore, ArePatterns, pattern_at, no_pattern, pattern, is_mask, masks_at, in_rooms, in_courses, patterns_of}
+use Rattle.problem_core.specs.Courses.{passing, meetings_of}
+use Rattle.problem_core.specs.Passing.{nth_is, at_place}
+use Rattle.meeting_patterns.specs.Pattern.{within, IsPattern, IsBefore, ArePatterns, pattern_at, no_pattern, pattern, is_mask, masks_at, in_rooms, in_courses, patterns_of}
 use Rattle.meeting_patterns.specs.declared.pattern.Pattern.{Pattern}
-
-any_same : (f g : ℕ → Bool) (n : ℕ) → ((k : ℕ) → f k ≡ g k) → any_below f n ≡ any_below g n
-any_same f g zero h = refl
-any_same f g (suc n) h = ap₂ (λ x y. x || y) (h n) (any_same f g n h)
-
-and_group : (a b c : Bool) → (a && (b && c)) ≡ ((a && b) && c)
-and_group true b c = refl
-and_group false b c = refl
-
-pub mask_tells : (p : Facts) (c r m : ℕ) (events : List ℕ) (bad : Bool) → m ≢ 0 → events ≡ events_of p c → bad ≡ list_any (λ e. has_bit m (place_of p e) && not (suits p e r)) events → not bad ≡ is_mask p c r m
-mask_tells p c r m events bad some same h =
-    ap not (h
-    ∙ ap (list_any (λ e. has_bit m (place_of p e) && not (suits p e r))) same
-    ∙ any_passing (is_of_course p c) (λ e. has_bit m (place_of p e) && not (suits p e r)) (length p.events)
-    ∙ any_same (λ e. is_of_course p c e && (has_bit m (place_of p e) && not (suits p e r))) (λ e. within p (pattern c r m) e && not (suits p e r)) (length p.events) (λ e. and_group (is_of_course p c e) (has_bit m (place_of p e)) (not (suits p e r))))
-    ∙ sym (ap (λ b. not b && not (any_below (λ e. within p (pattern c r m) e && not (suits p e r)) (length p.events))) (ne_eqb m 0 some))
 
 -- ---- a mask that passes is a pattern, and the other way round
 

@@ -1,8 +1,8 @@
 -- The weights of the chosen patterns sum to the measures of the choice.
-use Rattle.std.proofs.Common.{ℕ, ◌≡◌, ◌≢◌, ◌+◌, ◌-◌, ◌<◌, ◌≤◌, ◌^◌, inl, inr, zero, suc, Bool, true, false, not, ◌&&◌, ◌||◌, refl, arith, ap, ap₂, sym, ◌∙◌, cond, List, length, get_or}
+use Rattle.std.proofs.Common.{ℕ, ◌≡◌, ◌≢◌, ◌-◌, ◌<◌, inl, inr, zero, suc, Bool, true, false, not, ◌&&◌, ◌||◌, refl, arith, ap, ap₂, sym, ◌∙◌, cond, List, length, get_or}
 use Rattle.std.specs.Prelude.{ℤ, pos, negsuc, ◌+ℤ◌, ◌==◌}
 use Rattle.std.proofs.lemmas.Int.{ints}
-use Rattle.std.proofs.lemmas.Bool.{cases_eq, cases_Bool, cond-true, cond-false, and_parts, and_from, and_left, and_right, not-true, not_from_true, not_from_false, eq-eqb, eqb-true, ne_eqb, true≢false}
+use Rattle.std.proofs.lemmas.Bool.{cases_eq, cases_Bool, cond-true, cond-false, and_parts, and_from, and_left, and_right, not_from_true, not_from_false, eq-eqb, ne_eqb, true≢false}
 use Rattle.numbers.specs.Below.{any_below, any_below_at}
 use Rattle.numbers.specs.Sums.{sum_below, picked, value, sum_below-same}
 use Rattle.problem_core.specs.Facts.{Facts, course_of}
@@ -12,8 +12,8 @@ use Rattle.problem_core.specs.Measures.{gain, gained, measure, meets_there, is_n
 use Rattle.meeting_patterns.specs.Pattern.{has_bit, within, IsPattern, ArePatterns, AreCoursesKnown, pattern_at, chooses, weight}
 use Rattle.meeting_patterns.specs.declared.pattern.Pattern.{Pattern}
 use Rattle.meeting_patterns.proofs.BitLemmas.{least_bit}
-use Rattle.problem_core.specs.Passing.{IsNth, nth_is}
-use Rattle.meeting_patterns.proofs.ChosenLemmas.{IsHeld, held, agrees, holder, holds_it, IsHolder, holder_is, one, place_is}
+use Rattle.problem_core.specs.Passing.{nth_is}
+use Rattle.meeting_patterns.proofs.ChosenLemmas.{IsHeld, held, agrees, holder, holds_it, holder_is, one, place_is}
 
 -- the law that the sum over what is chosen is the sum over what is held
 abbrev pub SumsByHolder : Type 0

@@ -1,6 +1,5 @@
 -- The choice that a list of patterns makes.
-use Rattle.std.specs.Prelude.{ℕ, ◌≡◌, ◌+◌, ◌<◌, false, true, if◌then◌else◌, List, [], ◌∷◌, length, slice_index}
-use Rattle.numbers.specs.Sums.{member, distinct}
+use Rattle.std.specs.Prelude.{ℕ, ◌≡◌, ◌+◌, ◌<◌, false, if◌then◌else◌, List, [], ◌∷◌, length, slice_index}
 use Rattle.problem_core.specs.Facts.{Facts}
 use Rattle.problem_core.specs.Choice.{entry}
 use Rattle.meeting_patterns.specs.Pattern.{within, pattern_at, clash}

@@ -1,12 +1,11 @@
 -- Patterns: some meetings of a course that share a room.
-use Rattle.std.specs.Prelude.{ℕ, ℤ, pos, negsuc, ◌≡◌, ◌+◌, ◌/◌, ◌%◌, ◌^◌, ◌<◌, ◌≤◌, ◌⊎◌, ◌&&◌, ◌||◌, ◌==◌, Bool, true, not, zero, suc, if◌then◌else◌, List, [], ◌∷◌, ◌++◌, map, length, slice_index_or, IsTrue, Result, Ok, Err}
+use Rattle.std.specs.Prelude.{ℕ, ℤ, negsuc, ◌≡◌, ◌+◌, ◌/◌, ◌%◌, ◌^◌, ◌<◌, ◌≤◌, ◌⊎◌, ◌&&◌, ◌||◌, ◌==◌, Bool, true, not, zero, suc, if◌then◌else◌, List, [], ◌∷◌, ◌++◌, map, length, slice_index_or, IsTrue, Result, Ok, Err}
 use Rattle.numbers.specs.Below.{any_below}
 use Rattle.numbers.specs.Sums.{sum_below, picked}
 use Rattle.problem_core.specs.Facts.{Facts, suits, share_slot, course_of}
 use Rattle.problem_core.specs.Choice.{entry}
 use Rattle.problem_core.specs.Courses.{is_of_course, place_of, meetings_of, passing}
 use Rattle.problem_core.specs.Measures.{gain}
-use Rattle.problem_core.specs.declared.limit.Limit.{Limit}
 use Rattle.problem_core.specs.declared.limit.LimitKind.TheVariants.{Patterns}
 use Rattle.problem_core.specs.declared.limit.BuildFault.{BuildFault}
 use Rattle.problem_core.specs.declared.limit.BuildFault.TheVariants.{Limit as Over, Memory}

@@ -1,8 +1,5 @@
-ghost use Rattle.std.specs.Prelude.{◌≡◌, ◌<◌, ◌≤◌, ◌+◌, ◌^◌, ◌*◌, ◌++◌, ◌==◌, ◌&&◌, not, ℕ, List, OnOk, IfOk, length, map, slice_index};
-ghost use Rattle.std.specs.List.{list_any, AllByRecursion};
-ghost use Rattle.problem_core.specs.Facts.{suits};
-ghost use Rattle.problem_core.specs.Courses.{place_of, meetings_of, passing};
-ghost use Rattle.meeting_patterns.specs.Pattern.{Lists, ArePatterns, patterns_of, in_courses, in_rooms, masks_at, is_mask, has_bit, pattern, pattern_at};
+ghost use Rattle.std.specs.Prelude.{◌≡◌, ◌<◌, ◌≤◌, ◌+◌, ◌++◌, ◌∷◌, ℕ, OnOk, IfOk, length, map, drop};
+ghost use Rattle.meeting_patterns.specs.Pattern.{Lists, patterns_of, in_rooms, masks_at, has_bit, pattern, pattern_at};
 
 use crate::pattern::Pattern;
 use problem_core::{BuildFault, Limit, LimitKind, Memory, Problem};
@@ -88,7 +85,7 @@ fn add_course(patterns: &mut Items<Pattern>, p: &Problem, course: u32) -> Result
     Ok(())
 }
 
-/// Adds the course's patterns in the room.
+/// Adds the course's patterns in the room, a meeting at a time: those of the earlier meetings come first.
 fn add_room(
     patterns: &mut Items<Pattern>,
     p: &Problem,
@@ -99,14 +96,28 @@ fn add_room(
     requires known_room { room < length p.now.capacity }
     ensures { OnOk result (patterns.new ≡ patterns.old ++ map (pattern course room) (masks_at p.now course room)) }
 {
-    for mask in 0..mask_count(p, course) {
-        if is_mask(p, course, room, mask) {
-            patterns.push(Pattern {
-                course,
-                room,
-                mask: mask as u16,
-            })?;
+    let first = patterns.len();
+    for event in p.events_of(course) {
+        if p.suits(*event, room) {
+            let mask = 1 << p.place_of(*event);
+            add_meeting(patterns, first, Pattern { course, room, mask })?;
         }
+    }
+    Ok(())
+}
+
+/// Adds the pattern of a meeting alone, and then the patterns that join it to those from `first` on.
+fn add_meeting(patterns: &mut Items<Pattern>, first: usize, alone: Pattern) -> Result<(), Memory>
+    requires known { first ≤ length patterns.old }
+    requires small { alone.mask ≤ 2048 }
+    requires earlier { (i : ℕ) → first ≤ i → i < length patterns.old → (pattern_at patterns.old i).mask < alone.mask }
+    ensures { OnOk result (patterns.new ≡ patterns.old ++ alone ∷ map (λ x. pattern alone.course alone.room (alone.mask + x.mask)) (drop first patterns.old)) }
+{
+    let end = patterns.len();
+    patterns.push(alone)?;
+    for earlier in first..end {
+        let mask = alone.mask + patterns.as_slice()[earlier].mask;
+        patterns.push(Pattern { mask, ..alone })?;
     }
     Ok(())
 }
@@ -142,52 +153,14 @@ fn count_in_room(p: &Problem, course: u32, room: u32) -> u32
     ensures few { result ≤ 4096 }
 {
     let mut count = 0;
-    for mask in 0..mask_count(p, course) {
-        if is_mask(p, course, room, mask) {
-            count += 1;
-        }
+    for event in p.events_of(course) {
+        count = if p.suits(*event, room) {
+            2 * count + 1
+        } else {
+            count
+        };
     }
     count
-}
-
-/// The number of masks over the course's meetings.
-fn mask_count(p: &Problem, course: u32) -> u32
-    requires { course < length p.now.students }
-    ensures count { result ≡ 2 ^ meetings_of p.now course }
-    ensures few { result ≤ 4096 }
-{
-    2_u32.pow(p.events_of(course).len() as u32)
-}
-
-/// Whether the mask names some meetings of the course, and they all suit the room.
-fn is_mask(p: &Problem, course: u32, room: u32, mask: u32) -> bool
-    requires known { course < length p.now.students }
-    requires known_room { room < length p.now.capacity }
-    ensures { result ≡ is_mask p.now course room mask }
-{
-    mask != 0 && !has_unsuitable(p, p.events_of(course), room, mask)
-}
-
-/// Whether one of the events is in the mask and isn't suited by the room.
-fn has_unsuitable(p: &Problem, events: &[u32], room: u32, mask: u32) -> bool
-    requires known { AllByRecursion (λ e. e < length p.now.events) events.now }
-    requires known_room { room < length p.now.capacity }
-    ensures { result ≡ list_any (λ e. has_bit mask (place_of p.now e) && not (suits p.now e room)) events.now }
-{
-    for event in events {
-        if is_unsuitable(p, *event, room, mask) {
-            return true;
-        }
-    }
-    false
-}
-
-fn is_unsuitable(p: &Problem, event: u32, room: u32, mask: u32) -> bool
-    requires known { event < length p.now.events }
-    requires known_room { room < length p.now.capacity }
-    ensures { result ≡ (has_bit mask (place_of p.now event) && not (suits p.now event room)) }
-{
-    has_bit(mask, p.place_of(event)) && !p.suits(event, room)
 }
 
 /// Bit j of the number.

@@ -1,4 +1,4 @@
-use Rattle.std.proofs.Common.{ℕ, List, ◌≡◌, ◌+◌, ◌∙◌, true, false, sym, ap, [], ◌∷◌, ◌++◌}
+use Rattle.std.proofs.Common.{ℕ, List, ◌∙◌, sym, ap, [], ◌∷◌, ◌++◌}
 use Rattle.problem_core.specs.Passing.{passing-hit, passing-miss}
 use Rattle.meeting_patterns.specs.Pattern.{chooses, pattern_at}
 use Rattle.meeting_patterns.proofs.choose.chosen_of.Goals as goal

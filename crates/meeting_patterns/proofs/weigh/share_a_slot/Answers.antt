@@ -1,4 +1,4 @@
-use Rattle.std.proofs.Common.{ℕ, List, ◌≡◌, ◌<◌, ◌∙◌, true, sym, ap, subst, arith, length}
+use Rattle.std.proofs.Common.{◌<◌, ◌∙◌, sym, ap, subst, arith, length}
 use Rattle.std.specs.List.{AllByRecursion}
 use Rattle.problem_core.specs.Courses.{is_of_course}
 use Rattle.problem_core.specs.Passing.{passing-below}

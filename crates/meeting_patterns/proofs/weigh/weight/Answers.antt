@@ -1,8 +1,7 @@
-use Rattle.std.proofs.Common.{ℕ, List, ◌≡◌, ◌<◌, ◌∙◌, true, sym, ap, subst, arith, length}
+use Rattle.std.proofs.Common.{◌≡◌, ◌<◌, ◌∙◌, true, sym, subst, arith, length}
 use Rattle.std.specs.List.{AllByRecursion}
 use Rattle.problem_core.specs.Courses.{is_of_course}
 use Rattle.problem_core.specs.Passing.{passing-below}
-use Rattle.problem_core.specs.Courses.{events_of}
 use Rattle.meeting_patterns.proofs.WeighLemmas.{weight_is, each_passes}
 use Rattle.std.proofs.lemmas.Int.{ints}
 use mir.Syntax.{w64}
