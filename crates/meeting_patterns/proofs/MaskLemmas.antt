@@ -9,7 +9,7 @@ use Rattle.numbers.specs.Below.{any_below, any_below_at}
 use Rattle.problem_core.specs.Below.{any_below_none}
 use Rattle.problem_core.specs.Facts.{Facts, suits}
 use Rattle.problem_core.specs.Courses.{passing, is_of_course, place_of, events_of}
-use Rattle.problem_core.specs.Passing.{IsNth, nth_is, at_place, passing-few}
+use Rattle.problem_core.specs.Passing.{IsNth, nth_is, at_place, passing-few, passing-same, passing-add}
 use Rattle.meeting_patterns.specs.Pattern.{has_bit, within, no_pattern, pattern_at, pattern, is_mask}
 use Rattle.meeting_patterns.specs.declared.pattern.Pattern.{Pattern}
 use Rattle.meeting_patterns.proofs.BitLemmas.{pow_two, pow_few, no_bits}
@@ -32,30 +32,6 @@ other_bit (suc j) i (suc k) l d =
     ap (λ m. has_bit m k) half ∙ other_bit j (i / 2) k (omega (arith, l, pow_two j)) (λ e. d (ap suc e))
 
 -- ---- numbers that pass
-
-passing-same : (f g : ℕ → Bool) (n : ℕ) → ((i : ℕ) → i < n → f i ≡ g i) → passing f n ≡ passing g n
-passing-same f g zero h = refl
-passing-same f g (suc n) h =
-    let rest = passing-same f g n (λ i l. h i (omega arith)) in
-    let here = h n (omega arith) in
-    elim (cases_Bool (f n)) [
-      | inl hit ↦ let also : g n ≡ true = sym here ∙ hit in rw (hit, also) (ap (λ xs. xs ++ n ∷ []) rest)
-      | inr miss ↦ let also : g n ≡ false = sym here ∙ miss in rw (miss, also) rest
-    ]
-
-passing-add : (test : ℕ → Bool) (a b : ℕ) → passing test (a + b) ≡ passing test a ++ map (λ i. a + i) (passing (λ i. test (a + i)) b)
-passing-add test a zero = let e : a + 0 ≡ a = omega arith in ap (passing test) e ∙ sym (append-nil (passing test a))
-passing-add test a (suc b) =
-    let e : a + suc b ≡ suc (a + b) = omega arith in
-    let front = passing-add test a b in
-    let back = passing (λ i. test (a + i)) b in
-    ap (passing test) e ∙ elim (cases_Bool (test (a + b))) [
-      | inl hit ↦ rw hit (
-          ap (λ xs. xs ++ (a + b) ∷ []) front
-          ∙ append_assoc (passing test a) (map (λ i. a + i) back) ((a + b) ∷ [])
-          ∙ ap (λ ys. passing test a ++ ys) (sym (map-append (λ i. a + i) back (b ∷ []))))
-      | inr miss ↦ rw miss front
-    ]
 
 none_passing : (test : ℕ → Bool) (n : ℕ) → ((i : ℕ) → i < n → test i ≡ false) → passing test n ≡ []
 none_passing test zero h = refl

@@ -6,6 +6,7 @@ use Rattle.std.proofs.lemmas.Bool.{cases_Bool, lt-ltb, le-ltb, cond-true, cond-f
 use Rattle.numbers.specs.Sums.{member}
 use Rattle.problem_core.specs.Facts.{Facts}
 use Rattle.problem_core.specs.Courses.{passing}
+use Rattle.problem_core.specs.Passing.{passing-same, passing-add}
 use Rattle.problem_core.specs.Valid.{IsProblem}
 use Rattle.meeting_patterns.specs.Pattern.{IsPattern, pattern_at}
 use Rattle.meeting_patterns.specs.declared.pattern.Pattern.{Pattern}
@@ -15,31 +16,7 @@ use Rattle.packing_model.specs.Rows.{stands_in, standing, has_some, has_two, eve
 use Rattle.packing_model.specs.Keys.{slot_end, key_end, slot_key, course_key, row_of, keys_of, having, makes_row}
 use Rattle.packing_model.proofs.KeyLemmas.{slot_below, course_below, row_of-event, row_of-slot, row_of-course, keys-row}
 
--- ---- numbers that pass, below a sum and below a product
-
-pub passing-same : (f g : ℕ → Bool) (n : ℕ) → ((i : ℕ) → i < n → f i ≡ g i) → passing f n ≡ passing g n
-passing-same f g zero h = refl
-passing-same f g (suc n) h =
-    let rest = passing-same f g n (λ i l. h i (omega arith)) in
-    let here = h n (omega arith) in
-    elim (cases_Bool (f n)) [
-      | inl hit ↦ let also : g n ≡ true = sym here ∙ hit in rw (hit, also) (ap (λ xs. xs ++ n ∷ []) rest)
-      | inr miss ↦ let also : g n ≡ false = sym here ∙ miss in rw (miss, also) rest
-    ]
-
-passing-add : (test : ℕ → Bool) (a b : ℕ) → passing test (a + b) ≡ passing test a ++ map (λ i. a + i) (passing (λ i. test (a + i)) b)
-passing-add test a zero = let e : a + 0 ≡ a = omega arith in ap (passing test) e ∙ sym (append-nil (passing test a))
-passing-add test a (suc b) =
-    let e : a + suc b ≡ suc (a + b) = omega arith in
-    let front = passing-add test a b in
-    let back = passing (λ i. test (a + i)) b in
-    ap (passing test) e ∙ elim (cases_Bool (test (a + b))) [
-      | inl hit ↦ rw hit (
-          ap (λ xs. xs ++ (a + b) ∷ []) front
-          ∙ append_assoc (passing test a) (map (λ i. a + i) back) ((a + b) ∷ [])
-          ∙ ap (λ ys. passing test a ++ ys) (sym (map-append (λ i. a + i) back (b ∷ []))))
-      | inr miss ↦ rw miss front
-    ]
+-- ---- numbers that pass, below a product
 
 map_two : (f : ℕ → Row) (g : ℕ → ℕ) (xs : List ℕ) → map f (map g xs) ≡ map (λ i. f (g i)) xs
 map_two f g [] = refl

@@ -5,7 +5,7 @@ use Rattle.std.proofs.lemmas.Bool.{cases_eq, cases_Bool, and_parts, and_from, or
 use Rattle.std.proofs.lemmas.List.{append-nil, map-append, length-map, length_push, append_cancel_right, get_or_append_left, get_or_push, get_or-set_same, get_or-set_other}
 use Rattle.numbers.specs.Sums.{member}
 use Rattle.problem_core.specs.Courses.{passing}
-use Rattle.problem_core.specs.Passing.{passing-few}
+use Rattle.problem_core.specs.Passing.{passing-few, passing-same}
 use Rattle.duality.specs.declared.row.RowName.{RowName}
 use Rattle.duality.specs.declared.row.RowName.TheVariants.{Base, Cut, Level}
 use Rattle.duality.specs.Sums.{same_row, member_row, distinct_rows}
@@ -112,12 +112,6 @@ pub cut_rows_in : (kept cuts : List (List ℕ)) (table : List (List RowName)) (r
 cut_rows_in kept cuts table rows i same few is at = rw (← same) (cut_rows_are kept rows i few (at ∙ is.rows i))
 
 -- ---- one cut more
-
-passing-same : (f g : ℕ → Bool) (n : ℕ) → ((j : ℕ) → j < n → f j ≡ g j) → passing f n ≡ passing g n
-passing-same f g zero h = refl
-passing-same f g (suc n) h =
-    let rest = passing-same f g n (λ j l. h j (omega arith)) in
-    rw (h n (omega arith), rest) refl
 
 pub table_more : (cuts : List (List ℕ)) (cut : List ℕ) (old new : List (List RowName)) → IsCutTable cuts old → Adds (length cuts) cut old new → IsCutTable (cuts ++ cut ∷ []) new
 table_more cuts cut old new is adds = record { rows = at }

@@ -6,14 +6,14 @@ use Rattle.std.proofs.lemmas.Bool.{cases_eq, cases_lt, cases_Bool, cond-true, co
 use Rattle.numbers.specs.Sums.{member}
 use Rattle.problem_core.specs.Facts.{Facts}
 use Rattle.problem_core.specs.Courses.{passing}
-use Rattle.problem_core.specs.Passing.{passing-hit, passing-miss, passing-few}
+use Rattle.problem_core.specs.Passing.{passing-hit, passing-miss, passing-few, passing-same}
 use Rattle.problem_core.specs.Valid.{IsProblem}
 use Rattle.meeting_patterns.specs.Pattern.{ArePatterns, pattern_at}
 use Rattle.meeting_patterns.specs.declared.pattern.Pattern.{Pattern}
 use Rattle.packing_model.specs.declared.row.Row.{Row}
 use Rattle.packing_model.specs.Rows.{base_rows}
 use Rattle.packing_model.specs.Keys.{key_end, row_of, needed, keys_of, having, makes_row, counts_row, number_of, AreCounts, AreNumbers}
-use Rattle.packing_model.proofs.BaseLemmas.{passing-same, rows_listed}
+use Rattle.packing_model.proofs.BaseLemmas.{rows_listed}
 
 -- ---- counts
 

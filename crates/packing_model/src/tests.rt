@@ -273,26 +273,59 @@ fn by_pattern(alloc: Global, model: &Model) -> Result<Items<(usize, i64)>, Alloc
 }
 
 #[test]
-fn tells_clashes_rows_and_weights(rt: HostRuntime) -> Result<(), Fail> {
+fn tells_which_patterns_clash(rt: HostRuntime) -> Result<(), Fail> {
     let alloc = rt.alloc();
-    let model = small_model(alloc)?;
-    assert_eq!(rt; model.problem().event_count(), 2);
-    let rows = [
+    let pairs = clashless(alloc, &small_model(alloc)?)?;
+    assert_eq!(rt; pairs.as_slice(), [(0, 2)].as_slice());
+    Ok(())
+}
+
+/// The rows of the two meetings of which one can't have the first room.
+fn small_rows() -> [Row; 6] {
+    [
         Row::Event(0),
         Row::Event(1),
         Row::RoomSlot { room: 0, slot: 0 },
         Row::RoomSlot { room: 1, slot: 0 },
         Row::RoomSlot { room: 1, slot: 1 },
         Row::CourseRoom { course: 0, room: 1 },
-    ];
-    assert_eq!(rt; clashless(alloc, &model)?.as_slice(), [(0, 2)].as_slice());
-    assert_eq!(rt; base_rows(alloc, &model)?.as_slice(), rows.as_slice());
+    ]
+}
+
+#[test]
+fn lists_base_rows_in_order(rt: HostRuntime) -> Result<(), Fail> {
+    let alloc = rt.alloc();
+    let rows = base_rows(alloc, &small_model(alloc)?)?;
+    assert_eq!(rt; rows.as_slice(), small_rows().as_slice());
+    Ok(())
+}
+
+#[test]
+fn tells_runs_and_weights(rt: HostRuntime) -> Result<(), Fail> {
+    let alloc = rt.alloc();
+    let found = by_pattern(alloc, &small_model(alloc)?)?;
     assert_eq!(rt;
-        by_pattern(alloc, &model)?.as_slice(),
+        found.as_slice(),
         [(2, 1000), (3, 500), (2, 500), (4, 1000)].as_slice()
     );
+    Ok(())
+}
+
+/// The runs of the pattern, where there is one.
+fn runs(alloc: Global, model: &Model, pattern: u32) -> Result<Items<Run>, Fail> {
+    if pattern < model.patterns().len() {
+        Ok(Items::from_slice(alloc, model.base_runs(pattern))?)
+    } else {
+        Err(Fail::new("no such pattern"))
+    }
+}
+
+#[test]
+fn joins_rows_that_follow_one_another(rt: HostRuntime) -> Result<(), Fail> {
+    let alloc = rt.alloc();
+    let found = runs(alloc, &small_model(alloc)?, 2)?;
     let second = [Run { first: 1, count: 1 }, Run { first: 4, count: 2 }];
-    assert_eq!(rt; model.base_runs(2), second.as_slice());
+    assert_eq!(rt; found.as_slice(), second.as_slice());
     Ok(())
 }
 

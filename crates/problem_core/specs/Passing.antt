@@ -1,7 +1,7 @@
 -- The numbers that pass a test, in order: how many there are, and which is where.
-use Rattle.std.proofs.Common.{ℕ, ◌≡◌, ◌+◌, ◌<◌, ◌≤◌, inl, inr, zero, suc, Bool, true, false, ◌&&◌, ◌||◌, refl, arith, ap, sym, ◌∙◌, add-one, List, [], ◌∷◌, ◌++◌, length, get_or, take}
+use Rattle.std.proofs.Common.{ℕ, ◌≡◌, ◌+◌, ◌<◌, ◌≤◌, inl, inr, zero, suc, Bool, true, false, ◌&&◌, ◌||◌, refl, arith, ap, sym, ◌∙◌, add-one, List, [], ◌∷◌, ◌++◌, length, get_or, take, map, append_assoc}
 use Rattle.std.specs.List.{list_any, AllByRecursion}
-use Rattle.std.proofs.lemmas.List.{length_push, get_or_append_left, get_or_push, take_all, take-append-le}
+use Rattle.std.proofs.lemmas.List.{length_push, get_or_append_left, get_or_push, take_all, take-append-le, append-nil, map-append}
 use Rattle.std.proofs.lemmas.List.Folds.{list_any-append}
 use Rattle.std.proofs.lemmas.Bool.{cases_eq, cases_Bool}
 use Rattle.numbers.specs.Below.{any_below}
@@ -19,6 +19,28 @@ passing-few test (suc n) = elim (cases_Bool (test n)) [
   | inl hit ↦ rw hit (omega (arith, length_push (passing test n) n, passing-few test n))
   | inr miss ↦ rw miss (omega (arith, passing-few test n))
 ]
+
+-- two tests that agree
+pub passing-same : (f g : ℕ → Bool) (n : ℕ) → ((i : ℕ) → i < n → f i ≡ g i) → passing f n ≡ passing g n
+passing-same f g zero h = refl
+passing-same f g (suc n) h =
+    let rest = passing-same f g n (λ i l. h i (omega arith)) in
+    rw (h n (omega arith), rest) refl
+
+-- what passes below a sum
+pub passing-add : (test : ℕ → Bool) (a b : ℕ) → passing test (a + b) ≡ passing test a ++ map (λ i. a + i) (passing (λ i. test (a + i)) b)
+passing-add test a zero = let e : a + 0 ≡ a = omega arith in ap (passing test) e ∙ sym (append-nil (passing test a))
+passing-add test a (suc b) =
+    let e : a + suc b ≡ suc (a + b) = omega arith in
+    let front = passing-add test a b in
+    let back = passing (λ i. test (a + i)) b in
+    ap (passing test) e ∙ elim (cases_Bool (test (a + b))) [
+      | inl hit ↦ rw hit (
+          ap (λ xs. xs ++ (a + b) ∷ []) front
+          ∙ append_assoc (passing test a) (map (λ i. a + i) back) ((a + b) ∷ [])
+          ∙ ap (λ ys. passing test a ++ ys) (sym (map-append (λ i. a + i) back (b ∷ []))))
+      | inr miss ↦ rw miss front
+    ]
 
 -- what passes below m is the front of what passes below n
 pub passing-take : (test : ℕ → Bool) (m n : ℕ) → m ≤ n → take (length (passing test m)) (passing test n) ≡ passing test m
