@@ -1,11 +1,11 @@
 -- Reasons of the lines before the levels.
 use Rattle.std.proofs.Common.{ℕ, ◌≡◌, ◌<◌, ◌∙◌, ◌&&◌, arith, refl, sym, ap, subst, not, Bool, true, false, inl, inr, List, [], ◌∷◌, length, get_or, zero, suc}
-use Rattle.std.specs.Prelude.{ℤ, pos, ◌^◌, nat_le, nat_lt, Option, Some, None, Result, Ok, Err, if◌then◌else◌, ◌↔◌, slice_index_or}
+use Rattle.std.specs.Prelude.{ℤ, pos, negsuc, ◌≤ℤ◌, ◌^◌, nat_le, nat_lt, Option, Some, None, Result, Ok, Err, if◌then◌else◌, ◌↔◌, slice_index_or}
 use Rattle.std.specs.List.{list_all, AllByRecursion}
 use Rattle.std.proofs.lemmas.Int.{ints}
 use Rattle.std.proofs.lemmas.Option.{none-some}
 use Rattle.std.specs.Ordering.{int_eq}
-use Rattle.std.proofs.lemmas.Bool.{cases_Bool, not_from_false, and_parts, and_from, both_ways, leb-true}
+use Rattle.std.proofs.lemmas.Bool.{cases_Bool, not_from_false, and_parts, and_from, both_ways, leb-true, true≢false}
 use Rattle.std.proofs.lemmas.Bool.Decides.{Decides-int_eq}
 use Rattle.numbers.specs.Below.{any_below, any_below_at}
 use Rattle.problem_core.specs.Facts.{Facts}
@@ -18,6 +18,8 @@ use Rattle.cert_checker.specs.declared.verdict.Reason.TheVariants as reasons
 use Rattle.duality.specs.declared.row.Term.{Term}
 use Rattle.duality.specs.declared.leaf.Leaf.{Leaf}
 use Rattle.duality.specs.declared.leaf.LeafFault.{LeafFault}
+use Rattle.duality.specs.declared.leaf.Node.{Node as SearchNode}
+use Rattle.duality.specs.declared.leaf.Node.TheVariants.{Branch, Leaf as Closing, OpenEnd}
 use Rattle.duality.specs.Sums.{are_small, is_small, rises, IsWithin}
 use Rattle.cert_text.specs.declared.lines.CertLine.TheVariants as lines
 use Rattle.packing_model.specs.Rising.{rises_from, is_rising}
@@ -26,6 +28,7 @@ use Rattle.cert_text.specs.Spelling.{in_bounds, rises_above, is_rising as is_ris
 use Rattle.cert_checker.specs.declared.verdict.Reason.{Reason}
 use Rattle.packing_model.specs.Nodes.{ok_unless}
 use Rattle.cert_checker.specs.Faults.{unknown_reason, is_legal, choice_reason, values_reason, leaf_reason}
+use Rattle.cert_checker.specs.Trees.{IsLeafWithin, IsNodeWithin}
 use Rattle.cert_checker.specs.Progresses.{IsProgress, IsJudged}
 use Rattle.cert_checker.specs.declared.progress.Progress.{Progress}
 use Rattle.cert_checker.proofs.ValidLaws.{legal_is, legal_from, unknown_clean}
@@ -43,7 +46,9 @@ some_differs m vs k l h = sym (ap (λ b. if b then Some reasons.Values else None
 pub none_differs : (m vs : List ℤ) (n : ℕ) → n ≡ 6 → any_below (differ_at vs m) n ≡ false → None ≡ values_reason m vs
 none_differs m vs n e h = sym (ap (λ b. if b then Some reasons.Values else None) (subst (λ k. any_below (differ_at vs m) k ≡ false) e h))
 
-pub terms_small : (ts : List Term) → list_all term_in_bounds ts ≡ true → are_small ts ≡ true
+-- ---- a node of the text is within the bounds of a node
+
+terms_small : (ts : List Term) → list_all term_in_bounds ts ≡ true → are_small ts ≡ true
 terms_small [] h = refl
 terms_small (t ∷ ts) h =
     let parts = and_parts (term_in_bounds t) (list_all term_in_bounds ts) h in
@@ -51,11 +56,25 @@ terms_small (t ∷ ts) h =
     let times = and_parts (not (is_zero t.times)) (is_small (10 ^ 24) t.times) here.1 in
     and_from (is_small (10 ^ 24) t.times) (are_small ts) times.1 (terms_small ts parts.1)
 
-pub leaf_small : (leaf : Leaf) → leaf_in_bounds leaf ≡ true → are_small leaf.terms ≡ true
-leaf_small leaf h =
+not_negative : (z : ℤ) → scale_in_bounds z ≡ true → pos 0 ≤ℤ z
+not_negative (pos n) h = omega (arith, ints)
+not_negative (negsuc n) h = absurd (true≢false (sym h))
+
+small_scale : (z : ℤ) → scale_in_bounds z ≡ true → is_small (10 ^ 24) z ≡ true
+small_scale (pos n) h = h
+small_scale (negsuc n) h = absurd (true≢false (sym h))
+
+leaf_within : (leaf : Leaf) → leaf_in_bounds leaf ≡ true → IsLeafWithin leaf
+leaf_within leaf h =
     let parts = and_parts (scale_in_bounds leaf.scale) (nat_le (length leaf.terms) 5005 && (list_all term_in_bounds leaf.terms && rises leaf.terms)) h in
-    let rest = and_parts (nat_le (length leaf.terms) 5005) (list_all term_in_bounds leaf.terms && rises leaf.terms) parts.1 in
-    terms_small leaf.terms (and_parts (list_all term_in_bounds leaf.terms) (rises leaf.terms) rest.1).0
+    let few = and_parts (nat_le (length leaf.terms) 5005) (list_all term_in_bounds leaf.terms && rises leaf.terms) parts.1 in
+    let terms = and_parts (list_all term_in_bounds leaf.terms) (rises leaf.terms) few.1 in
+    record { scale = not_negative leaf.scale parts.0; small_scale = small_scale leaf.scale parts.0; rising = terms.1; small = terms_small leaf.terms terms.0 }
+
+pub node_within : (n : SearchNode) → in_bounds (lines.Node n) ≡ true → IsNodeWithin n
+node_within (Branch p) h = tt
+node_within (Closing leaf) h = leaf_within leaf h
+node_within OpenEnd h = tt
 
 -- a leaf that does not close
 abbrev fault_in : Result (Unit {0}) LeafFault → Option LeafFault

@@ -6,9 +6,8 @@ use Rattle.problem_core.specs.Measures.{measures}
 use Rattle.duality.specs.Packing.{Stage}
 use Rattle.duality.specs.Sums.{IsWithin}
 use Rattle.duality.specs.Tree.{nothing_fixed}
-use Rattle.duality.specs.Walk.{Step, step_at, fixing_of, turn, pending_of}
+use Rattle.duality.specs.Walk.{Step, fixing_of, pending_of}
 use Rattle.duality.specs.declared.leaf.Node.{Node as SearchNode}
-use Rattle.duality.specs.declared.leaf.Node.TheVariants.{Branch, Leaf as Closing, OpenEnd}
 use Rattle.cert_text.specs.declared.lines.Tree.{Tree}
 use Rattle.cert_text.specs.declared.lines.CertLine.{CertLine}
 use Rattle.cert_text.specs.declared.lines.CertLine.TheVariants as lines
@@ -22,7 +21,8 @@ use Rattle.packing_model.specs.Built.{packing, measured}
 use Rattle.packing_model.specs.Cuts.{IsPoolOf}
 use Rattle.cert_checker.specs.Faults.{at_line, sizes_reason, choice_reason, values_reason, cut_reason, after, node_reason, next_reason, sized_fault, chosen_fault, valued_fault, opening_fault, between_fault, block_fault, first_level_line, stage_for, value_at, fault_of}
 use Rattle.packing_model.specs.Nodes.{stage_at}
-use Rattle.cert_checker.specs.Paths.{path_of, IsWalk, IsTurned}
+use Rattle.cert_checker.specs.Paths.{path_of, IsWalk}
+use Rattle.cert_checker.specs.Trees.{NodeAfter}
 use Rattle.cert_checker.specs.declared.verdict.Reason.{Reason}
 use Rattle.cert_checker.specs.declared.verdict.Found.{Found}
 use Rattle.cert_checker.specs.declared.progress.Progress.{Progress}
@@ -147,11 +147,6 @@ PoolAfter l old new = new ≡ old
 abbrev pub MeasuresAfter : Facts → CertLine → List ℤ → List ℤ → Type 0
 MeasuresAfter f (lines.Choice cs) old new = new ≡ measures f cs
 MeasuresAfter f l old new = new ≡ old
-
-abbrev pub NodeAfter : SearchNode → List Step → List Step → Type 0
-NodeAfter (Branch p) old new = new ≡ step_at p false ∷ old
-NodeAfter (Closing leaf) old new = IsTurned (turn old) new
-NodeAfter OpenEnd old new = new ≡ old
 
 abbrev pub NodeAfterIn : Place → SearchNode → List Step → List Step → Type 0
 NodeAfterIn (places.Inside levels wanted) n old new = NodeAfter n old new

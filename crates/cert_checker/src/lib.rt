@@ -1,16 +1,19 @@
 //! The verdict on a certificate: whether its bytes are a text of a valid certificate, or the first line that
-//! is at fault.
+//! is at fault; and the judge of a tree's nodes that it stands on, which serves any objective.
 #![tactic(auto)]
 
 mod judge;
 mod laws;
 mod progress;
+mod tree;
 mod verdict;
 mod walk;
 
 pub use judge::check;
 pub use laws::certificate_laws;
+pub use tree::TreeAt;
 pub use verdict::{Reason, Verdict};
+pub use walk::{Side, Walk};
 
 #[cfg(test)]
 mod tests;

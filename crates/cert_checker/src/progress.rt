@@ -1,23 +1,23 @@
-ghost use Rattle.std.specs.Prelude.{◌≡◌, ◌<◌, ◌≤◌, ◌+◌, ◌-◌, ◌^◌, ◌∷◌, ◌++◌, [], None, Some, true, false, length, IfOk, OnOk};
+ghost use Rattle.std.specs.Prelude.{◌≡◌, ◌<◌, ◌≤◌, ◌+◌, ◌-◌, ◌^◌, ◌∷◌, ◌++◌, [], None, Some, true, length, IfOk, OnOk};
 ghost use Rattle.problem_core.specs.Facts.{Facts};
-ghost use Rattle.duality.specs.Walk.{step_at, fixing_of, turn};
-ghost use Rattle.duality.specs.Leaf.{leaf_fault};
+ghost use Rattle.duality.specs.Walk.{fixing_of};
 ghost use Rattle.cert_text.specs.declared.lines.CertLine.TheVariants as lines;
 ghost use Rattle.cert_text.specs.Grammar.{State, step};
 ghost use Rattle.cert_text.specs.Grammar.State.{Begun};
-ghost use Rattle.cert_text.specs.Spelling.{in_bounds, leaf_in_bounds};
+ghost use Rattle.cert_text.specs.Spelling.{in_bounds};
 ghost use Rattle.packing_model.specs.Built.{packing, measured};
-ghost use Rattle.packing_model.specs.Nodes.{ok_unless};
-ghost use Rattle.cert_checker.specs.Faults.{sizes_reason, values_reason, branch_reason, leaf_reason, unknown_reason};
+ghost use Rattle.cert_checker.specs.Faults.{sizes_reason, values_reason, node_reason, unknown_reason};
 ghost use Rattle.cert_text.specs.Text.{takes, read_end};
 ghost use Rattle.cert_checker.specs.Verdicts.{judged, verdict_of};
-ghost use Rattle.cert_checker.specs.Paths.{path_of, IsTurned};
+ghost use Rattle.cert_checker.specs.Paths.{path_of};
+ghost use Rattle.cert_checker.specs.Trees.{NodeAfter};
 ghost use Rattle.cert_checker.specs.Progresses.{Stands, IsProgress, reason_of, stage_in, RoomFor, IsJudged, IsWalked, Takes, Judges};
 
+use crate::tree::TreeAt;
 use crate::verdict::{Found, Reason, Verdict};
 use crate::walk::Walk;
 use cert_text::{CertLine, Node, Place, line_laws, read_line, step};
-use packing_model::{At, Cut, CutFault, Leaf, LeafFault, Model, Pool, is_free, leaf_closes};
+use packing_model::{Cut, CutFault, Measured, Model, Pool};
 use problem_core::{Choice, Memory};
 use std::alloc::Global;
 use values::Items;
@@ -210,80 +210,33 @@ impl Progress {
         requires bounds { in_bounds (lines.Node node.now) ≡ true }
         ensures { IfOk result (λ reason. IsJudged m.now self.old self.new (lines.Node node.now) reason) }
     {
-        match (self.place, node) {
-            (Place::Inside { .. }, Node::Branch(pattern)) => self.branch_reason(m, *pattern),
-            (Place::Inside { levels, .. }, Node::Leaf(leaf)) => {
-                self.leaf_reason(m, levels + 1, leaf)
-            }
+        match self.place {
+            Place::Inside { levels, .. } => self.level_reason(m, levels + 1, node),
             _ => Ok(None),
         }
     }
 
-    // A branch is to be on a pattern that is free.
-    fn branch_reason(&mut self, m: &Model, pattern: u32) -> Result<Option<Reason>, Memory>
+    // A node of the level's tree, which is to prove the level's value.
+    fn level_reason(&mut self, m: &Model, level: u32, node: &Node) -> Result<Option<Reason>, Memory>
         requires kept { IsProgress m.now self.old }
-        ensures reason { IfOk result (λ reason. reason ≡ branch_reason (packing m.now) (fixing_of (path_of self.old.walk.path)) pattern) }
-        ensures rest { IfOk result (λ reason. IsWalked m.now self.old self.new) }
-        ensures path { IfOk result (λ reason. reason ≡ None → path_of self.new.walk.path ≡ step_at pattern false ∷ path_of self.old.walk.path) }
-    {
-        if pattern >= m.patterns().len() {
-            return Ok(Some(Reason::Pattern { pattern }));
-        }
-        if !is_free(m, &self.walk.fixing, pattern) {
-            return Ok(Some(Reason::NotFree { pattern }));
-        }
-        self.walk.branch(pattern)?;
-        Ok(None)
-    }
-
-    // A leaf is to close against the level's value.
-    fn leaf_reason(&mut self, m: &Model, level: u32, leaf: &Leaf) -> Result<Option<Reason>, Memory>
-        requires kept { IsProgress m.now self.old }
-        requires bounds { leaf_in_bounds leaf.now ≡ true }
+        requires bounds { in_bounds (lines.Node node.now) ≡ true }
         requires low { 1 ≤ level }
         requires high { level ≤ 6 }
-        ensures reason { IfOk result (λ reason. reason ≡ leaf_reason (leaf_fault (packing m.now) (measured m.now) (stage_in self.old level) (fixing_of (path_of self.old.walk.path)) leaf.now)) }
+        ensures reason { IfOk result (λ reason. reason ≡ node_reason (packing m.now) (measured m.now) (stage_in self.old level) (fixing_of (path_of self.old.walk.path)) node.now) }
         ensures rest { IfOk result (λ reason. IsWalked m.now self.old self.new) }
-        ensures path { IfOk result (λ reason. reason ≡ None → IsTurned (turn (path_of self.old.walk.path)) (path_of self.new.walk.path)) }
-    {
-        match self.close(m, level, leaf) {
-            Ok(()) => {
-                self.walk.turn()?;
-                Ok(None)
-            }
-            Err(fault) => Ok(Some(reason_of(fault))),
-        }
-    }
-
-    // Whether the leaf closes at the node.
-    fn close(&self, m: &Model, level: u32, leaf: &Leaf) -> Result<(), LeafFault>
-        requires kept { IsProgress m.now self.now }
-        requires bounds { leaf_in_bounds leaf.now ≡ true }
-        requires low { 1 ≤ level }
-        requires high { level ≤ 6 }
-        ensures { result ≡ ok_unless (leaf_fault (packing m.now) (measured m.now) (stage_in self.now level) (fixing_of (path_of self.now.walk.path)) leaf.now) }
+        ensures path { IfOk result (λ reason. reason ≡ None → NodeAfter node.now (path_of self.old.walk.path) (path_of self.new.walk.path)) }
     {
         let below = level as usize - 1;
-        let at = At {
+        let measured = Measured::new(m);
+        let tree = TreeAt {
             model: m,
             pool: &self.pool,
-            fixing: &self.walk.fixing,
+            objective: &measured,
             level,
             targets: &self.measures[..below],
-            best: self.measures[below],
+            best: Some(self.measures[below]),
         };
-        leaf_closes(&at, leaf)
-    }
-}
-
-fn reason_of(fault: LeafFault) -> Reason
-    ensures { Some result ≡ leaf_reason (Some fault) }
-{
-    match fault {
-        LeafFault::Row { .. } => Reason::Row,
-        LeafFault::Sign { .. } => Reason::Sign,
-        LeafFault::Cost { pattern } => Reason::Cost { pattern },
-        LeafFault::Bound => Reason::Bound,
+        tree.judge_node(&mut self.walk, node)
     }
 }
 

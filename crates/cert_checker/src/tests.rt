@@ -1,5 +1,10 @@
+ghost use Rattle.std.specs.Prelude.{◌≤◌, IfOk};
+ghost use Rattle.cert_checker.specs.Trees.{IsNodeWithin};
+
 use super::*;
-use packing_model::Model;
+use cert_text::Node;
+use duality::{FLOOR_LEVEL, Objective};
+use packing_model::{Leaf, Model, Pool, RowName, Term};
 use problem_core::{EventPart, Parts, Problem};
 use std::alloc::{AllocError, Global};
 use std::test::Fail;
@@ -424,5 +429,104 @@ fn judges_large_trees(rt: HostRuntime) -> Result<(), Fail> {
     let line = 8;
     let reason = NOT_FREE_0;
     assert_eq!(rt; deep, Verdict::Not { line, reason });
+    Ok(())
+}
+
+/// One level, at which each pattern weighs 1, and a floor that asks for some pattern.
+#[derive(Clone, Copy)]
+struct SomePattern {
+    count: u32,
+    ghost few: { count ≤ 200000 },
+}
+
+impl Objective for SomePattern {
+    ghost use Rattle.std.specs.Prelude.{pos, Some};
+    ghost use Rattle.std.proofs.Common.{arith};
+    ghost use Rattle.std.proofs.lemmas.Int.{ints};
+
+    ghost count = { λ o. o.count };
+
+    ghost levels = { λ _. 1 };
+
+    ghost weight = { λ _ level pattern. pos 1 };
+
+    ghost floor = { λ _. Some (λ pattern. pos 1, pos 1) };
+
+    ghost few_levels = { λ o. Prim.omega arith };
+
+    ghost few_patterns = { λ o. o.few };
+
+    ghost small_weight = { λ o level pattern low high known. record { low = Prim.omega (arith, ints); high = Prim.omega (arith, ints) } };
+
+    ghost small_floor = { λ o pattern known. record { low = Prim.omega (arith, ints); high = Prim.omega (arith, ints) } };
+
+    ghost small_number = { λ o. record { low = Prim.omega (arith, ints); high = Prim.omega (arith, ints) } };
+
+    fn count(&self) -> u32 {
+        self.count
+    }
+
+    fn levels(&self) -> u32 {
+        1
+    }
+
+    fn weight(&self, _level: u32, _pattern: u32) -> i64 {
+        1
+    }
+
+    fn has_floor(&self) -> bool {
+        true
+    }
+
+    fn floor_weight(&self, _pattern: u32) -> i64 {
+        1
+    }
+
+    fn floor_number(&self) -> i64 {
+        1
+    }
+}
+
+/// The leaf of scale 0 whose one term is the floor's row.
+fn floor_leaf(alloc: Global) -> Result<Node, AllocError>
+    ensures { IfOk result IsNodeWithin }
+{
+    let mut terms = Items::new(alloc);
+    terms.push(Term {
+        row: RowName::Level(FLOOR_LEVEL),
+        times: 1,
+    })?;
+    Ok(Node::Leaf(Leaf { scale: 0, terms }))
+}
+
+/// What is said of a branch on the first pattern, and of the floor's leaf in both parts behind it.
+fn judge_floor_tree(alloc: Global, model: &Model) -> Result<[Option<Reason>; 3], Fail> {
+    let pool = Pool::new(alloc);
+    let objective = SomePattern {
+        count: model.patterns().len(),
+    };
+    let tree = TreeAt {
+        model,
+        pool: &pool,
+        objective: &objective,
+        level: 1,
+        targets: &[],
+        best: None,
+    };
+    let leaf = floor_leaf(alloc)?;
+    let mut walk = Walk::new(alloc);
+    let branch = tree.judge_node(&mut walk, &Node::Branch(0))?;
+    let left_out = tree.judge_node(&mut walk, &leaf)?;
+    let taken = tree.judge_node(&mut walk, &leaf)?;
+    Ok([branch, left_out, taken])
+}
+
+// Without its one pattern the floor is not met, and with it it is.
+#[test]
+fn judges_a_tree_of_another_objective(rt: HostRuntime) -> Result<(), Fail> {
+    let alloc = rt.alloc();
+    let model = model_of(alloc, 1, &[20], &[])?;
+    let reasons = judge_floor_tree(alloc, &model)?;
+    assert!(rt; reasons == [None, None, Some(Reason::Bound)]);
     Ok(())
 }

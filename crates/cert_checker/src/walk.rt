@@ -17,7 +17,10 @@ pub struct Side {
     pub inside: bool,
 }
 
-/// The path to a node of a tree, from its first branch on, and the fixing that it makes.
+/// The path to a node of a tree, from its first branch on, and the fixing that it makes. A tree is begun
+/// by [`Walk::new`], and [`TreeAt::judge_node`] goes on from node to node.
+///
+/// [`TreeAt::judge_node`]: crate::TreeAt::judge_node
 #[derive(Debug, Drop)]
 pub struct Walk {
     pub path: Items<Side>,
@@ -25,7 +28,7 @@ pub struct Walk {
 }
 
 impl Walk {
-    /// The path to the first node of a tree.
+    /// The path to the first node of a tree, which is a walk of every packing.
     pub fn new(alloc: Global) -> Walk
         ensures path { result.path ≡ [] }
         ensures walk { (k : Packing) → IsWalk k result }
@@ -37,7 +40,7 @@ impl Walk {
     }
 
     /// From a branch to the part in which its pattern is left out.
-    pub fn branch(&mut self, pattern: u32) -> Result<(), Memory>
+    pub(crate) fn branch(&mut self, pattern: u32) -> Result<(), Memory>
         ensures path { OnOk result (path_of self.new.path ≡ step_at pattern false ∷ path_of self.old.path) }
         ensures walk { OnOk result ((k : Packing) → IsWalk k self.old → can_branch k (fixing_of (path_of self.old.path)) pattern ≡ true → IsWalk k self.new) }
     {
@@ -51,7 +54,7 @@ impl Walk {
 
     /// From a leaf to the next node: the part of the last branch on its first side in which its pattern is
     /// taken. Where there is no such branch the tree is at its end, and the path is empty.
-    pub fn turn(&mut self) -> Result<(), Memory>
+    pub(crate) fn turn(&mut self) -> Result<(), Memory>
         ensures path { OnOk result (IsTurned (turn (path_of self.old.path)) (path_of self.new.path)) }
         ensures walk { OnOk result ((k : Packing) → IsWalk k self.old → IsWalk k self.new) }
     {
