@@ -1,8 +1,8 @@
 -- The cuts of a pattern, as a pool keeps them.
-use Rattle.std.proofs.Common.{ℕ, ◌≡◌, ◌≢◌, ◌+◌, ◌<◌, ◌≤◌, inl, inr, zero, suc, Bool, true, false, not, ◌&&◌, ◌||◌, refl, arith, ap, sym, ◌∙◌, add-one, List, [], ◌∷◌, ◌++◌, length, get_or, set, append_assoc}
+use Rattle.std.proofs.Common.{ℕ, ◌≡◌, ◌≢◌, ◌<◌, ◌≤◌, inl, inr, zero, suc, Bool, true, false, not, ◌||◌, refl, arith, ap, sym, ◌∙◌, List, [], ◌∷◌, ◌++◌, length, get_or, set}
 use Rattle.std.specs.Prelude.{◌==◌, map, Option, Some, None, MatchOption, Result, Ok, Err, OnOk, OnErr}
 use Rattle.std.proofs.lemmas.Bool.{cases_eq, cases_Bool, and_parts, and_from, or_from, or_left, or_right, not-true, not_from_false, eq-eqb, ne_eqb, true≢false}
-use Rattle.std.proofs.lemmas.List.{append-nil, map-append, length-map, length_push, append_cancel_right, get_or_append_left, get_or_push, get_or-set_same, get_or-set_other}
+use Rattle.std.proofs.lemmas.List.{append-nil, map-append, length-map, length_push, get_or_append_left, get_or_push, get_or-set_same, get_or-set_other}
 use Rattle.numbers.specs.Sums.{member}
 use Rattle.problem_core.specs.Courses.{passing}
 use Rattle.problem_core.specs.Passing.{passing-few, passing-same}

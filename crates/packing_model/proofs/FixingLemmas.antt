@@ -1,5 +1,5 @@
 -- What is left after the last element is taken away.
-use Rattle.std.proofs.Common.{ℕ, ◌≡◌, ◌-◌, ◌∙◌, sym, arith, refl, List, [], ◌∷◌, ◌++◌, length, take}
+use Rattle.std.proofs.Common.{ℕ, ◌≡◌, ◌-◌, sym, arith, refl, List, [], ◌∷◌, ◌++◌, length}
 use Rattle.std.specs.Prelude.{Option, Some, None, MatchOption}
 use Rattle.std.proofs.lemmas.List.{length_push, take_at}
 use Rattle.packing_model.specs.Fixings.{without_last}

@@ -1,8 +1,8 @@
 -- Members of lists, and rising lists.
-use Rattle.std.proofs.Common.{ℕ, ◌≡◌, ◌+◌, ◌<◌, ◌≤◌, inl, inr, zero, suc, Bool, true, false, not, ◌&&◌, ◌||◌, refl, arith, ap, sym, ◌∙◌, List, [], ◌∷◌, ◌++◌, length, get_or, drop, take}
+use Rattle.std.proofs.Common.{ℕ, ◌≡◌, ◌<◌, ◌≤◌, inl, inr, zero, suc, Bool, true, false, not, ◌||◌, refl, arith, ap, sym, List, [], ◌∷◌, drop, take}
 use Rattle.std.specs.Prelude.{◌==◌, nat_lt}
 use Rattle.std.specs.List.{list_all, list_any}
-use Rattle.std.proofs.lemmas.Bool.{cases_eq, cases_Bool, and_parts, and_from, or_from, or_cases, ltb-true, lt-ltb, eqb-true, ne_eqb, true≢false, not_from_false}
+use Rattle.std.proofs.lemmas.Bool.{cases_Bool, and_parts, and_from, or_cases, ltb-true, lt-ltb, eqb-true, true≢false, not_from_false}
 use Rattle.numbers.specs.Sums.{member, distinct}
 use Rattle.duality.specs.declared.row.RowName.{RowName}
 use Rattle.duality.specs.Sums.{same_row, member_row}

@@ -13,7 +13,7 @@ use Rattle.packing_model.specs.declared.row.Row.{Row}
 use Rattle.packing_model.specs.Rows.{base_rows}
 use Rattle.packing_model.specs.Built.{packing, rows_of, model_limit, AreBaseRowsOf, AreBaseRunsOf}
 use Rattle.packing_model.specs.Keys.{key_end, makes_row, AreNumbers, AreRuns, AreWeights, IsModel, rows_of_keys, runs_of}
-use Rattle.packing_model.specs.Runs.{merged, no_run}
+use Rattle.packing_model.specs.Runs.{no_run}
 use Rattle.packing_model.proofs.PlaceLemmas.{rows_are, rows_known, runs_placed}
 use Rattle.packing_model.proofs.RunLemmas.{merged_rows, merged_below}
 

@@ -1,10 +1,10 @@
 -- What holds at each node: the rows of a pattern, the number of terms, cliques and patterns that are taken.
-use Rattle.std.proofs.Common.{ℕ, ◌≡◌, ◌≢◌, ◌+◌, ◌-◌, ◌*◌, ◌^◌, ◌<◌, ◌≤◌, inl, inr, zero, suc, Bool, true, false, not, ◌&&◌, ◌||◌, refl, arith, ap, sym, ◌∙◌, List, [], ◌∷◌, ◌++◌, length, get_or, take, drop, subst}
+use Rattle.std.proofs.Common.{ℕ, ◌≡◌, ◌+◌, ◌-◌, ◌^◌, ◌<◌, ◌≤◌, inl, inr, zero, suc, Bool, true, false, not, ◌&&◌, ◌||◌, refl, arith, ap, sym, ◌∙◌, List, [], ◌∷◌, ◌++◌, length, get_or, take, drop, subst}
 use Rattle.std.specs.Prelude.{ℤ, pos, negsuc, ◌≤ℤ◌, ◌==◌, nat_lt, nat_le, if◌then◌else◌, Option, Some, None, is_some, slice_index_or, Result, Ok, Err, IfOk}
 use Rattle.std.specs.List.{list_all, list_any}
 use Rattle.std.specs.Option.{option_or}
-use Rattle.std.proofs.lemmas.Bool.{cases_eq, cases_Bool, and_parts, and_from, and_right, or_cases, lt-ltb, ltb-true, leb-true, le-ltb, eqb-true, eq-eqb, ne_eqb, true≢false, not_from_false, false_from_ne_true}
-use Rattle.std.proofs.lemmas.List.{length-take-le, drop_more}
+use Rattle.std.proofs.lemmas.Bool.{cases_eq, cases_Bool, and_parts, and_from, and_right, or_cases, ltb-true, leb-true, le-ltb, eqb-true, ne_eqb, true≢false, not_from_false, false_from_ne_true}
+use Rattle.std.proofs.lemmas.List.{drop_more}
 use Rattle.std.proofs.lemmas.Int.{ints}
 use mir.Syntax.{w128}
 use mir.Val.{to_z, of_z}
@@ -21,7 +21,7 @@ use Rattle.packing_model.specs.Closing.{Caps, HasTargets, choice_of}
 use Rattle.problem_core.specs.Facts.{Facts}
 use Rattle.problem_core.specs.Measures.{measure}
 use Rattle.meeting_patterns.specs.Pattern.{patterns_of}
-use Rattle.duality.specs.Sums.{row_before, rises, rises_from, member_row, distinct_rows, AreRowsOf, times_of, AreLevelTimes, AreOfLevels, HaveTargets, IsWithin, is_small, are_small, no_term}
+use Rattle.duality.specs.Sums.{row_before, rises, rises_from, member_row, AreRowsOf, times_of, AreLevelTimes, AreOfLevels, HaveTargets, IsWithin, is_small, are_small, no_term}
 use Rattle.packing_model.specs.Rising.{is_rising}
 use Rattle.packing_model.specs.Cuts.{first_clear_of, pair_with, first_apart}
 use Rattle.packing_model.specs.Built.{AreBaseRowsOf, packing, measured}

@@ -11,7 +11,6 @@ use Rattle.problem_core.specs.Passing.{nth_is, at_place}
 use Rattle.problem_core.specs.Valid.{IsProblem}
 use Rattle.meeting_patterns.specs.Pattern.{ArePatterns, pattern_at}
 use Rattle.meeting_patterns.specs.declared.pattern.Pattern.{Pattern}
-use Rattle.duality.specs.declared.row.RowName.{RowName}
 use Rattle.duality.specs.declared.row.Run.{Run}
 use Rattle.duality.specs.declared.row.RowName.TheVariants.{Base, Cut, Level}
 use Rattle.duality.specs.Sums.{member_row, distinct_rows}

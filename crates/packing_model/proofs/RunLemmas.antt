@@ -1,17 +1,16 @@
 -- Rows as runs, and the rows of runs.
-use Rattle.std.proofs.Common.{ℕ, ◌≡◌, ◌+◌, ◌-◌, ◌<◌, ◌≤◌, inl, inr, zero, suc, Bool, true, false, ◌&&◌, ◌||◌, refl, arith, ap, ap₂, sym, ◌∙◌, List, [], ◌∷◌, ◌++◌, length, get_or, drop, map, append_assoc}
+use Rattle.std.proofs.Common.{ℕ, ◌≡◌, ◌+◌, ◌-◌, ◌<◌, ◌≤◌, inl, inr, zero, suc, true, false, ◌&&◌, ◌||◌, refl, arith, ap, sym, ◌∙◌, List, [], ◌∷◌, ◌++◌, length, get_or, drop, map, append_assoc}
 use Rattle.std.specs.Prelude.{◌==◌, nat_le, nat_lt, slice_index}
 use Rattle.std.specs.List.{flat_map, AllByRecursion}
 use Rattle.std.proofs.lemmas.List.{append-nil, drop_more}
-use Rattle.std.proofs.lemmas.Bool.{cases_Bool, cases_eq, cases_lt, eqb-true, eq-eqb, ne_eqb, lt-ltb, le-ltb, le-leb, lt-leb, leb-true, or_left, or_right, cond-true, cond-false, true≢false}
+use Rattle.std.proofs.lemmas.Bool.{cases_Bool, cases_lt, eqb-true, eq-eqb, ne_eqb, lt-ltb, le-ltb, le-leb, lt-leb, or_left, or_right, cond-true, cond-false}
 use Rattle.numbers.specs.Sums.{member}
 use Rattle.duality.specs.declared.row.Run.{Run}
-use Rattle.duality.specs.declared.row.RowName.{RowName}
 use Rattle.duality.specs.declared.row.RowName.TheVariants.{Base}
 use Rattle.duality.specs.Runs.{rows_from, rows_in, AreBelow}
 use Rattle.duality.specs.Sums.{member_row}
 use Rattle.packing_model.specs.Keys.{named, number_in}
-use Rattle.packing_model.specs.Runs.{no_run, as_list, with_row, ended, merged}
+use Rattle.packing_model.specs.Runs.{as_list, with_row, ended, merged}
 use Rattle.packing_model.proofs.CutLemmas.{member_row-append}
 
 -- ---- the rows of merged runs

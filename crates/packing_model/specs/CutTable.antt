@@ -1,5 +1,5 @@
 -- For each pattern the rows of its cuts, as a pool keeps them.
-use Rattle.std.specs.Prelude.{ℕ, ◌≡◌, ◌<◌, ◌≤◌, if◌then◌else◌, Bool, List, [], ◌∷◌, ◌++◌, map, length, slice_index_or}
+use Rattle.std.specs.Prelude.{ℕ, ◌≡◌, if◌then◌else◌, Bool, List, [], ◌∷◌, ◌++◌, map, length, slice_index_or}
 use Rattle.numbers.specs.Sums.{member}
 use Rattle.problem_core.specs.Courses.{passing}
 use Rattle.duality.specs.declared.row.RowName.{RowName}

@@ -1,7 +1,7 @@
 -- Nodes of a search: a fixing of patterns, and a level with its targets and best value.
-use Rattle.std.specs.Prelude.{ℕ, ℤ, pos, ◌≡◌, ◌<◌, ◌≤◌, ◌^◌, ◌+◌, Bool, true, false, nat_lt, Option, Some, None, List, [], ◌∷◌, length, slice_index_or, Result, Ok, Err}
+use Rattle.std.specs.Prelude.{ℕ, ℤ, pos, ◌≡◌, ◌<◌, ◌≤◌, ◌^◌, ◌+◌, true, false, nat_lt, Option, Some, None, List, [], length, slice_index_or, Result, Ok, Err}
 use Rattle.std.specs.List.{list_all}
-use Rattle.duality.specs.Packing.{Packing, Weights, Stage, Fixing as Fixed}
+use Rattle.duality.specs.Packing.{Packing, Stage, Fixing as Fixed}
 use Rattle.duality.specs.Sums.{IsWithin}
 use Rattle.duality.specs.declared.leaf.LeafFault.{LeafFault}
 use Rattle.duality.specs.declared.row.RowName.{RowName}

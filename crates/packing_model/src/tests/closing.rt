@@ -515,22 +515,41 @@ fn cut_of(alloc: Global, model: &Model, patterns: &[u32]) -> Result<Result<Cut, 
     Ok(Cut::new(alloc, model, patterns))
 }
 
+/// Why the patterns of the model of four are no cut, where they are none.
+fn cut_fault(alloc: Global, patterns: &[u32]) -> Result<Option<CutFault>, Fail>
+    requires some { 2 ≤ length patterns.now }
+    requires few { length patterns.now ≤ 1000 }
+    requires rising { is_rising patterns.now ≡ true }
+    requires known { list_all (λ p. nat_lt p 4) patterns.now ≡ true }
+{
+    let model = small_model(alloc)?;
+    match cut_of(alloc, &model, patterns)? {
+        Ok(_) => Ok(None),
+        Err(fault) => Ok(Some(fault)),
+    }
+}
+
 #[test]
 fn refuses_patterns_that_do_not_clash(rt: HostRuntime) -> Result<(), Fail> {
-    let alloc = rt.alloc();
+    let apart = CutFault::NotClique {
+        first: 0,
+        second: 2,
+    };
+    assert_eq!(rt; cut_fault(rt.alloc(), &[0, 1, 2])?, Some(apart));
+    Ok(())
+}
+
+/// The patterns of the cut of the last three of four patterns.
+fn cut_patterns(alloc: Global) -> Result<Items<u32>, Fail> {
     let model = small_model(alloc)?;
-    match cut_of(alloc, &model, &[0, 1, 2])? {
-        Err(fault) => assert_eq!(rt;
-            fault,
-            CutFault::NotClique {
-                first: 0,
-                second: 2
-            }
-        ),
-        Ok(_) => return Err(Fail::new("a cut of patterns that do not clash")),
-    }
     let cut = cut_of(alloc, &model, &[1, 2, 3])??;
-    assert_eq!(rt; cut.patterns(), [1, 2, 3].as_slice());
+    Ok(Items::from_slice(alloc, cut.patterns())?)
+}
+
+#[test]
+fn keeps_the_patterns_of_a_cut(rt: HostRuntime) -> Result<(), Fail> {
+    let patterns = cut_patterns(rt.alloc())?;
+    assert_eq!(rt; patterns.as_slice(), [1, 2, 3].as_slice());
     Ok(())
 }
 
@@ -548,20 +567,38 @@ fn pool_of(
     Ok((pool, answer))
 }
 
+/// The last answer of such a pool, how many cuts it has, and how many of them the second pattern has.
+fn pool_sizes(alloc: Global, count: u32) -> Result<(Result<u32, PoolFault>, u32, usize), Fail> {
+    let (pool, answer) = pool_of(alloc, &small_model(alloc)?, count)?;
+    Ok((answer, pool.len(), pool.cut_rows(1).len()))
+}
+
 #[test]
 fn takes_a_thousand_cuts(rt: HostRuntime) -> Result<(), Fail> {
-    let alloc = rt.alloc();
-    let model = small_model(alloc)?;
-    let (pool, answer) = pool_of(alloc, &model, 2)?;
-    assert_eq!(rt; answer, Ok(1));
-    assert_eq!(rt; pool.cut_rows(0), [].as_slice());
+    let full = pool_sizes(rt.alloc(), 1_001)?;
+    assert_eq!(rt; full, (Err(PoolFault::Full), 1_000, 1_000));
+    Ok(())
+}
+
+/// The cuts of the pattern in such a pool of two.
+fn two_cuts(alloc: Global, pattern: u32) -> Result<Items<RowName>, Fail> {
+    let (pool, _) = pool_of(alloc, &small_model(alloc)?, 2)?;
+    Ok(Items::from_slice(alloc, pool.cut_rows(pattern))?)
+}
+
+#[test]
+fn lists_the_cuts_of_a_pattern(rt: HostRuntime) -> Result<(), Fail> {
+    let rows = two_cuts(rt.alloc(), 3)?;
     assert_eq!(rt;
-        pool.cut_rows(3),
+        rows.as_slice(),
         [RowName::Cut(0), RowName::Cut(1)].as_slice()
     );
-    let (full, answer) = pool_of(alloc, &model, 1_001)?;
-    assert_eq!(rt; answer, Err(PoolFault::Full));
-    assert_eq!(rt; full.len(), 1_000);
-    assert_eq!(rt; full.cut_rows(1).len(), 1_000);
+    Ok(())
+}
+
+#[test]
+fn lists_no_cut_of_a_pattern_in_none(rt: HostRuntime) -> Result<(), Fail> {
+    let rows = two_cuts(rt.alloc(), 0)?;
+    assert_eq!(rt; rows.as_slice(), [].as_slice());
     Ok(())
 }

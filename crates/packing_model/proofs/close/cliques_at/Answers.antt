@@ -1,4 +1,4 @@
-use Rattle.std.proofs.Common.{◌≡◌, ◌*◌, ◌^◌, ◌∙◌, ◌++◌, lit<}
+use Rattle.std.proofs.Common.{◌*◌, ◌^◌, ◌∙◌, ◌++◌, lit<}
 use Rattle.duality.specs.Packing.{Packing, Weights, Stage}
 use Rattle.duality.specs.Runs.{rows_in}
 use Rattle.packing_model.specs.Built.{packing}

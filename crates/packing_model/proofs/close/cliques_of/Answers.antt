@@ -3,9 +3,9 @@ use Rattle.std.specs.Prelude.{◌+ℤ◌}
 use Rattle.std.proofs.lemmas.Int.{ints}
 use mir.Syntax.{w128}
 use mir.Val.{to_z, of_z}
-use Rattle.duality.specs.Packing.{Packing, Weights, Stage, Fixing}
+use Rattle.duality.specs.Packing.{Packing, Weights, Stage}
 use Rattle.packing_model.specs.Built.{packing}
-use Rattle.packing_model.specs.Nodes.{fixed_of, stage_at}
+use Rattle.packing_model.specs.Nodes.{stage_at}
 use Rattle.packing_model.specs.Closing.{counted}
 use Rattle.duality.specs.Sums.{clique_priced}
 use Rattle.packing_model.proofs.SumLemmas.{total_step}

@@ -1,11 +1,11 @@
-use Rattle.std.proofs.Common.{◌≡◌, ◌≤◌, ◌∙◌, ◌++◌, ap, sym, arith, rules}
+use Rattle.std.proofs.Common.{◌≤◌, ◌∙◌, ◌++◌, ap, sym, arith, rules}
 use Rattle.std.specs.Prelude.{FitsSigned, ◌-ℤ◌, ◌*ℤ◌}
 use Rattle.std.proofs.lemmas.Int.{to_z-of_z}
 use mir.Syntax.{w128}
-use Rattle.duality.specs.Packing.{Packing, Weights, Stage, Fixing}
+use Rattle.duality.specs.Packing.{Packing, Weights, Stage}
 use Rattle.duality.specs.Runs.{rows_in}
 use Rattle.packing_model.specs.Built.{packing}
-use Rattle.packing_model.specs.Nodes.{fixed_of, stage_at}
+use Rattle.packing_model.specs.Nodes.{stage_at}
 use Rattle.packing_model.specs.Closing.{counted}
 use Rattle.packing_model.proofs.NodeLemmas.{rows_join, of_levels}
 use Rattle.packing_model.proofs.close.cost_of.Goals as goal

@@ -1,5 +1,3 @@
-use Rattle.std.proofs.Common.{ℕ, ◌≡◌, List, true, false}
-use Rattle.std.specs.List.{list_all, list_any}
 use mir.Syntax.{w64}
 use mir.Val.{to_z, of_z}
 use Rattle.packing_model.proofs.SumLemmas.{plain64}

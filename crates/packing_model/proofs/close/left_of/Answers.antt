@@ -1,4 +1,4 @@
-use Rattle.std.proofs.Common.{◌≡◌, ◌≤◌, ◌*◌, ◌^◌, ◌∙◌, ap, sym, arith, lit<}
+use Rattle.std.proofs.Common.{◌≡◌, ◌≤◌, ◌^◌, ◌∙◌, ap, arith, lit<}
 use Rattle.std.specs.Prelude.{ℤ, ◌+ℤ◌, ◌-ℤ◌, ◌*ℤ◌}
 use Rattle.std.proofs.lemmas.Int.{ints}
 use mir.Syntax.{w128}
@@ -7,9 +7,9 @@ use Rattle.numbers.specs.Sums.{total}
 use Rattle.duality.specs.Packing.{level_coefficient, level_side}
 use Rattle.duality.specs.Leaf.{reduced, worth}
 use Rattle.duality.specs.Sums.{clique_priced, clique_worth, level_sum, IsWithin}
-use Rattle.duality.specs.Packing.{Packing, Weights, Stage, Fixing}
+use Rattle.duality.specs.Packing.{Packing, Weights, Stage}
 use Rattle.packing_model.specs.Built.{packing}
-use Rattle.packing_model.specs.Nodes.{fixed_of, stage_at}
+use Rattle.packing_model.specs.Nodes.{stage_at}
 use Rattle.packing_model.specs.Closing.{counted}
 use Rattle.packing_model.proofs.SumLemmas.{plain}
 use Rattle.packing_model.proofs.close.left_of.Goals as goal

@@ -1,4 +1,4 @@
-use Rattle.std.proofs.Common.{ℕ, [], ◌<◌, ◌≤◌, ◌≡◌, length, arith, true, refl}
+use Rattle.std.proofs.Common.{[], length, arith}
 use Rattle.std.specs.Prelude.{slice_index_or}
 use Rattle.meeting_patterns.specs.Pattern.{patterns_of}
 use Rattle.meeting_patterns.specs.Made.{AreClashless}

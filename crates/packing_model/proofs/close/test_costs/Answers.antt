@@ -1,4 +1,4 @@
-use Rattle.std.proofs.Common.{ℕ, ◌≡◌, ◌<◌, ◌∙◌, suc, sym, ap, arith, length, true, false, add-one}
+use Rattle.std.proofs.Common.{◌≡◌, ◌<◌, ◌∙◌, suc, sym, ap, arith, length, true, false, add-one}
 use Rattle.numbers.specs.Below.{first_from, first_from_yes, first_from_no}
 use Rattle.meeting_patterns.specs.Pattern.{patterns_of}
 use Rattle.duality.specs.Leaf.{costs, cost_at}

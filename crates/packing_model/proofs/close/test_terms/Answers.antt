@@ -1,12 +1,12 @@
-use Rattle.std.proofs.Common.{ℕ, ◌≡◌, ◌<◌, ◌≤◌, ◌∙◌, sym, ap, arith, length, take, get_or, true, false}
+use Rattle.std.proofs.Common.{◌≡◌, ◌∙◌, sym, ap, arith, length, take, get_or, true, false}
 use Rattle.std.specs.List.{list_all}
 use Rattle.std.proofs.lemmas.List.{length-take-le, take_all}
 use Rattle.duality.specs.Packing.{is_there, has_sign}
 use Rattle.duality.specs.Sums.{no_term}
 use Rattle.packing_model.specs.Nodes.{ok_unless}
-use Rattle.duality.specs.Packing.{Packing, Weights, Stage, Fixing}
+use Rattle.duality.specs.Packing.{Packing, Weights, Stage}
 use Rattle.packing_model.specs.Built.{packing}
-use Rattle.packing_model.specs.Nodes.{fixed_of, stage_at}
+use Rattle.packing_model.specs.Nodes.{stage_at}
 use Rattle.packing_model.specs.Closing.{counted}
 use Rattle.packing_model.proofs.NodeLemmas.{few_terms, rises-take, sign_fault, term_plain}
 use Rattle.packing_model.proofs.close.test_terms.Goals as goal

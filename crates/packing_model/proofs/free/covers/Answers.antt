@@ -1,6 +1,6 @@
-use Rattle.std.proofs.Common.{◌≡◌, ◌∙◌, ◌+◌, Bool, ◌||◌, ap, sym, drop, get_or}
+use Rattle.std.proofs.Common.{◌∙◌, ◌+◌, Bool, ◌||◌, ap, sym, drop}
 use Rattle.std.proofs.lemmas.Bool.{or_left}
-use Rattle.duality.specs.Runs.{rows_in, rows_from}
+use Rattle.duality.specs.Runs.{rows_in}
 use Rattle.duality.specs.Sums.{member_row}
 use Rattle.duality.specs.declared.row.RowName.TheVariants.{Base}
 use Rattle.packing_model.specs.Runs.{no_run}

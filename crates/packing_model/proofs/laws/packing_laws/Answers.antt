@@ -1,4 +1,3 @@
-use Rattle.meeting_patterns.specs.Pattern.{pattern_at}
 use Rattle.packing_model.specs.Rows.{base_rows, row_at}
 use Rattle.packing_model.proofs.RowLemmas.{base_clash}
 use Rattle.packing_model.proofs.laws.packing_laws.Goals as goal

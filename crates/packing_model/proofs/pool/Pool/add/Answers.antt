@@ -1,4 +1,4 @@
-use Rattle.std.proofs.Common.{ℕ, ◌≡◌, ◌∙◌, arith, List, length}
+use Rattle.std.proofs.Common.{arith}
 use Rattle.packing_model.proofs.CutLemmas.{table_added}
 use Rattle.packing_model.proofs.pool.Pool.add.Goals as goal
 
