@@ -1,5 +1,5 @@
 -- Cutting bytes at line feeds and blanks.
-use Rattle.std.proofs.Common.{ℕ, ◌≡◌, ◌≢◌, ◌+◌, ◌-◌, ◌*◌, ◌^◌, ◌<◌, ◌≤◌, Bool, true, false, cond, not, List, [], ◌∷◌, length, take, drop, get_or, map, refl, ap, sym, ◌∙◌, arith, suc, zero, inl, inr}
+use Rattle.std.proofs.Common.{ℕ, ◌≡◌, ◌≢◌, ◌+◌, ◌-◌, ◌*◌, ◌^◌, ◌<◌, ◌≤◌, Bool, true, false, cond, not, ◌⊎◌, subst, List, [], ◌∷◌, length, take, drop, get_or, map, refl, ap, sym, ◌∙◌, arith, suc, zero, inl, inr}
 use Rattle.std.specs.Prelude.{filter}
 use Rattle.std.specs.List.{prefix_len, list_all}
 use Rattle.std.specs.Prelude.{IsAscii}
@@ -12,9 +12,9 @@ use Rattle.std.proofs.lemmas.Grind.{common_steps}
 use Rattle.std.proofs.Math.Nat.{pow-le-pow_right}
 use Rattle.std.proofs.Common.{lit<}
 use Rattle.std.proofs.lemmas.List.Folds.{length-prefix_len}
-use Rattle.std.proofs.lemmas.Bool.{ne_eqb, cases_lt, and_parts}
-use Rattle.std.proofs.lemmas.List.Sums.{prefix_len_stops, prefix_len-drop_yes}
-use Rattle.std.proofs.lemmas.List.{take-take, drop-drop, drop_all}
+use Rattle.std.proofs.lemmas.Bool.{ne_eqb, cases_lt, and_parts, not-true, not-false}
+use Rattle.std.proofs.lemmas.List.Sums.{prefix_len_passes, prefix_len_stops, prefix_len-drop_yes}
+use Rattle.std.proofs.lemmas.List.{take-take, drop-drop, drop_all, get_or-drop}
 use Rattle.std.proofs.Common.{min, length-drop}
 use Rattle.std.proofs.lemmas.Grind.{pow_more}
 use Rattle.input_core.specs.Lines.{onto, is_feed, cut_at_feeds, lines_of, without_return, is_blank, cut_at_blanks, fields_of, is_digit, is_some_text, is_allowed, is_graphic, IsNextLine, IsNextField}
@@ -105,6 +105,31 @@ drop_to bytes m n e = elim (cases_lt m (length bytes)) [
   | inr past ↦ let same : n ≡ length bytes = omega arith in drop_all m bytes past ∙ sym (drop_all n bytes (omega arith))
 ]
 
+-- the bytes before the first line feed from a place on are none
+feeds_later : (bytes : List ℕ) (at k : ℕ) → at ≤ k → k < at + prefix_len (λ x. not (is_feed x)) (drop at bytes) → is_feed (get_or bytes k 0) ≡ false
+feeds_later bytes at k from before =
+    let there : get_or (drop at bytes) (k - at) 0 ≡ get_or bytes k 0 = get_or-drop at bytes (k - at) 0 ∙ (let e : at + (k - at) ≡ k = omega arith in ap (λ i. get_or bytes i 0) e) in
+    subst (λ b. is_feed b ≡ false) there
+    (not-true (is_feed (get_or (drop at bytes) (k - at) 0)) (prefix_len_passes (λ x. not (is_feed x)) (drop at bytes) (k - at) 0 (omega arith)))
+
+-- where there is a line feed from a place on, the first stands there
+feed_there : (bytes : List ℕ) (at : ℕ) → prefix_len (λ x. not (is_feed x)) (drop at bytes) < length (drop at bytes) → is_feed (get_or bytes (at + prefix_len (λ x. not (is_feed x)) (drop at bytes)) 0) ≡ true
+feed_there bytes at more =
+    let n = prefix_len (λ x. not (is_feed x)) (drop at bytes) in
+    subst (λ b. is_feed b ≡ true) (get_or-drop at bytes n 0) (not-false (is_feed (get_or (drop at bytes) n 0)) (prefix_len_stops (λ x. not (is_feed x)) (drop at bytes) 0 more))
+
+-- the next line begins behind the first line feed, or at the end
+feed_ends : (bytes : List ℕ) (at len next : ℕ) → len ≡ prefix_len (λ x. not (is_feed x)) (drop at bytes) → at ≤ length bytes → len ≤ length (drop at bytes) → next ≡ min (at + len + 1) (length bytes)
+    → (next ≡ length bytes) ⊎ (is_feed (get_or bytes (next - 1) 0) ≡ true)
+feed_ends bytes at len next is within fits ends =
+    let room : length (drop at bytes) ≡ length bytes - at = length-drop at bytes in
+    elim (cases_lt len (length (drop at bytes))) [
+      | inl more ↦
+          let e : next - 1 ≡ at + prefix_len (λ x. not (is_feed x)) (drop at bytes) = omega (arith, is, room, more, ends) in
+          inr (subst (λ i. is_feed (get_or bytes i 0) ≡ true) (sym e) (feed_there bytes at (omega (arith, is, more))))
+      | inr all ↦ inl (omega (arith, room, all, fits, ends))
+    ]
+
 pub IsNextLine-from : (bytes : List ℕ) (at len short next : ℕ) → at < length bytes → len ≡ prefix_len (λ x. not (is_feed x)) (drop at bytes)
     → len ≤ length (drop at bytes) → take short (take len (drop at bytes)) ≡ without_return (take len (drop at bytes)) → short ≤ len
     → next ≡ min (at + len + 1) (length bytes) → IsNextLine bytes at (at + short, next)
@@ -118,6 +143,8 @@ IsNextLine-from bytes at len short next more is fits same less ends =
       ends = omega arith;
       more = omega arith;
       within = omega arith;
+      first = λ k from before. feeds_later bytes at k from (omega (arith, is, before, ends));
+      feed = feed_ends bytes at len next is (omega arith) fits ends;
       line = let k : (at + short) - at ≡ short = omega arith in rw (k, cut, ← on) first;
     }
 

@@ -1,5 +1,5 @@
 -- Lines, fields and numbers of the input files.
-use Rattle.std.specs.Prelude.{ℕ, ◌≡◌, ◌-◌, ◌<◌, ◌≤◌, ◌==◌, ◌&&◌, ◌||◌, Bool, false, true, not, if◌then◌else◌, nat_le, bytes_eq, List, [], ◌∷◌, length, take, drop, map, filter, slice_index, Option, Some, None}
+use Rattle.std.specs.Prelude.{ℕ, ◌≡◌, ◌⊎◌, ◌+◌, ◌-◌, ◌<◌, ◌≤◌, ◌==◌, ◌&&◌, ◌||◌, Bool, false, true, not, if◌then◌else◌, nat_le, bytes_eq, List, [], ◌∷◌, length, take, drop, map, filter, slice_index, Option, Some, None}
 use Rattle.std.specs.List.{list_all}
 use Rattle.std.specs.Str.Parse.{digits_value}
 
@@ -66,12 +66,15 @@ is_number field = nat_le 1 (length field) && nat_le (length field) 9 && list_all
 abbrev pub number_of : List ℕ → Option ℕ
 number_of field = if is_number field then Some (digits_value 10 field) else None
 
--- the line that begins at this place ends at r.0, and the next begins at r.1
+-- the line that begins at this place ends at r.0, and the next begins at r.1: behind the first line feed from
+-- this place on, or at the end of the bytes where there is none
 pub record IsNextLine (bytes : List ℕ) (at : ℕ) (r : ℕ × ℕ) : Type 0 where
   pub ordered : at ≤ r.0
   pub ends : r.0 ≤ r.1
   pub more : at < r.1
   pub within : r.1 ≤ length bytes
+  pub first : (k : ℕ) → at ≤ k → k + 1 < r.1 → is_feed (slice_index bytes k) ≡ false
+  pub feed : (r.1 ≡ length bytes) ⊎ (is_feed (slice_index bytes (r.1 - 1)) ≡ true)
   pub line : lines_of (drop at bytes) ≡ take (r.0 - at) (drop at bytes) ∷ lines_of (drop r.1 bytes)
 
 -- the field that begins at r.0 is the first at or after this place, and ends at r.1

@@ -1,7 +1,7 @@
 ghost use Rattle.std.specs.Prelude.{◌≡◌, ◌≤◌, IfOk, length, false, None};
 
 use crate::shelf::{Fault, PutFault, Shelf};
-use std::io::{Read, Seek, SeekFrom, Write};
+use std::io::{ErrorKind, Read, Seek, SeekFrom, Write};
 use std::rt::Files;
 use std::{fs, io};
 
@@ -63,7 +63,20 @@ fn read_at<R: Files>(rt: &R, name: &str, at: u64, buf: &mut [u8]) -> io::Result<
 {
     let mut file = fs::open(rt, name)?;
     file.seek(SeekFrom::Start(at))?;
-    file.read(buf)
+    read_through(&mut file, buf)
+}
+
+/// Reads once, and again where a signal interrupted the read.
+fn read_through<F: Read>(file: &mut F, buf: &mut [u8]) -> io::Result<usize>
+    ensures { IfOk result (λ n. n ≤ length buf.new) }
+{
+    for _ in 0..u64::MAX {
+        match file.read(buf) {
+            Err(fault) if fault.kind() == ErrorKind::Interrupted => {}
+            answer => return answer,
+        }
+    }
+    Err(io::Error::from(ErrorKind::Interrupted))
 }
 
 /// Creates the file and writes it whole.

@@ -1,5 +1,5 @@
 ghost use Rattle.std.specs.Prelude.{◌≡◌, ◌≤◌, ◌<◌, ◌+◌, ◌^◌, ℕ, IfOk, IfErr, IfSome, IsTrue, length, Some, None};
-ghost use Rattle.input_core.specs.Reading.{ReadFails, StepFails, IsWhole, AddsPiece};
+ghost use Rattle.input_core.specs.Reading.{ReadFails, StepFails, IsWhole, AddsPiece, NoneFailed};
 ghost use Rattle.input_core.specs.Shelf.{OnlyReads};
 
 use crate::shelf::Shelf;
@@ -39,7 +39,7 @@ const PIECE: usize = 65_536;
 
 /// All that a name holds, if it is no longer than the limit. `TooLong` comes exactly where one byte more than
 /// the limit was taken. `Fault` comes only where the shelf's count of `piece` rose, or the shelf tells that it
-/// holds no such name. Whatever the answer, each name holds what it held.
+/// holds no such name; with any other answer no call has failed. Whatever the answer, each name holds what it held.
 pub fn read_all<S: Shelf>(
     alloc: Global,
     shelf: &mut S,
@@ -49,6 +49,7 @@ pub fn read_all<S: Shelf>(
     requires { limit < 2 ^ 63 }
     ensures bytes { IfOk result (λ v. IsWhole (S.tells shelf.old) (S.held shelf.old name.now) limit v.items) }
     ensures cause { IfErr result (ReadFails (S.tells shelf.old) (S.held shelf.old name.now) (S.piece_faults shelf.old) (S.piece_faults shelf.new) limit) }
+    ensures calls { NoneFailed (S.piece_faults shelf.old) (S.piece_faults shelf.new) result }
     ensures only { OnlyReads S.tells S.held S.piece_faults S.put_faults shelf.old shelf.new }
 {
     let mut bytes = Vec::new(alloc);
@@ -84,6 +85,7 @@ fn take_piece<S: Shelf>(
     requires fits { length bytes.old.items + length piece.old ≤ limit + 1 }
     ensures added { IfOk result (λ n. AddsPiece (S.tells shelf.old) (S.held shelf.old name.now) limit bytes.old.items bytes.new.items n) }
     ensures cause { IfErr result (StepFails (S.tells shelf.old) (S.held shelf.old name.now) (S.piece_faults shelf.old) (S.piece_faults shelf.new)) }
+    ensures calls { NoneFailed (S.piece_faults shelf.old) (S.piece_faults shelf.new) result }
     ensures only { OnlyReads S.tells S.held S.piece_faults S.put_faults shelf.old shelf.new }
 {
     let taken = bytes.len() as u64;

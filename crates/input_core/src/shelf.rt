@@ -1,4 +1,5 @@
 ghost use Rattle.std.specs.Prelude.{◌≡◌, ◌≤◌, ◌++◌, List, ℕ, Bool, Option, length, take, IfOk, OnOk, IfErr, IsTrue};
+ghost use Rattle.input_core.specs.Causes.{next_count};
 ghost use Rattle.input_core.specs.Shelf.{GivesPiece, PieceCause, OnlyReads, Puts, PutFails, Writes};
 ghost use Rattle.input_core.specs.declared.shelf.PutFault.TheVariants.{Memory};
 
@@ -57,10 +58,13 @@ pub trait Shelf {
         ensures piece_count { piece_faults self.new ≡ piece_faults self.old };
 }
 
-/// Where text goes. It counts its faults as a `Shelf` does.
+/// Where text goes. It counts its calls and its faults as a `Shelf` counts faults.
 pub trait Sink {
     /// All bytes written so far, where the sink tells them.
     ghost written: { Self → Option (List ℕ) };
+
+    /// How often `write` was called.
+    ghost calls: { Self → ℕ };
 
     /// How often `write` has failed.
     ghost faults: { Self → ℕ };
@@ -69,6 +73,7 @@ pub trait Sink {
     /// nothing was appended.
     fn write(&mut self, bytes: &[u8]) -> Result<(), PutFault>
         ensures bytes { Writes (written self.old) (written self.new) bytes.now result }
+        ensures counted { calls self.new ≡ next_count (calls self.old) }
         ensures cause { IfErr result (PutFails (faults self.old) (faults self.new)) }
         ensures later { faults self.old ≤ faults self.new }
         ensures kept { OnOk result (faults self.new ≡ faults self.old) };

@@ -11,24 +11,33 @@ use values::Items;
 #[derive(Drop)]
 pub struct OutSink<'a, R> {
     rt: &'a R,
+    calls: u64,
     faults: u64,
 }
 
 impl<'a, R: Print> OutSink<'a, R> {
-    /// Writes to the standard output of the runtime. No fault is counted yet.
+    /// Writes to the standard output of the runtime. No call and no fault is counted yet.
     pub fn new(rt: &'a R) -> OutSink<'a, R>
-        ensures { result.faults ≡ 0 }
+        ensures calls { result.calls ≡ 0 }
+        ensures faults { result.faults ≡ 0 }
     {
-        OutSink { rt, faults: 0 }
+        OutSink {
+            rt,
+            calls: 0,
+            faults: 0,
+        }
     }
 }
 
 impl<R: Print> Sink for OutSink<'_, R> {
     ghost written = { λ _. None };
 
+    ghost calls = { λ s. s.calls };
+
     ghost faults = { λ s. s.faults };
 
     fn write(&mut self, bytes: &[u8]) -> Result<(), PutFault> {
+        self.calls = self.calls.saturating_add(1);
         match write_all_of(self.rt, bytes) {
             Ok(()) => Ok(()),
             Err(()) => {
@@ -89,14 +98,16 @@ impl MemSink {
 impl Sink for MemSink {
     ghost written = { λ s. Some s.bytes.items };
 
+    ghost calls = { λ s. s.calls };
+
     ghost faults = { λ s. s.faults };
 
     fn write(&mut self, bytes: &[u8]) -> Result<(), PutFault>
         ensures bytes { Writes (Some self.old.bytes.items) (Some self.new.bytes.items) bytes.now result }
+        ensures counted { self.new.calls ≡ next_count self.old.calls }
         ensures cause { IfErr result (PutFails self.old.faults self.new.faults) }
         ensures later { self.old.faults ≤ self.new.faults }
         ensures kept { OnOk result (self.new.faults ≡ self.old.faults) }
-        ensures numbered { self.new.calls ≡ next_count self.old.calls }
         ensures failing { self.new.failing ≡ self.old.failing }
         ensures listed { SinkListed (bytes_before self.old.failing.items self.new.calls) self.old.bytes.items bytes.now self.new.bytes.items result }
     {

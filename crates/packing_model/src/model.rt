@@ -3,6 +3,7 @@ ghost use Rattle.duality.specs.Sums.{IsWithin};
 ghost use Rattle.problem_core.specs.Valid.{IsProblem};
 ghost use Rattle.meeting_patterns.specs.Pattern.{patterns_of, ArePatterns};
 ghost use Rattle.packing_model.specs.Rows.{row_at};
+ghost use Rattle.packing_model.specs.Tables.{Makes, MakesTables};
 ghost use Rattle.packing_model.specs.Built.{BuildsModel, rows_of, packing, measured, AreBaseRunsOf};
 
 use crate::row::Row;
@@ -18,7 +19,19 @@ use values::Items;
 #[derive(Drop)]
 pub struct Model {
     problem: Problem,
+    made: Made,
+}
+
+/// The patterns of a problem and their tables.
+#[derive(Drop)]
+struct Made {
     patterns: PatternSet,
+    tables: Tables,
+}
+
+/// The base rows of the patterns, the weights, and the runs of each pattern's base rows.
+#[derive(Drop)]
+struct Tables {
     rows: Items<Row>,
     weights: Vec<[i64; 6]>,
     runs: Vec<Run>,
@@ -33,7 +46,7 @@ impl std::marker::Model for Model {
 
     ghost view = { λ m. m.problem };
 
-    ghost invariant = { λ m. IsModel m.problem m.patterns m.rows m.weights.items m.runs.items m.starts.items };
+    ghost invariant = { λ m. IsModel m.problem m.made.patterns m.made.tables.rows m.made.tables.weights.items m.made.tables.runs.items m.made.tables.starts.items };
 }
 
 impl Model {
@@ -44,19 +57,8 @@ impl Model {
         ensures { BuildsModel p result }
     {
         p.laws();
-        pattern_laws();
-        let patterns = PatternSet::all(alloc, &p)?;
-        let table = row_table(alloc, &p, &patterns)?;
-        let weights = weight_table(alloc, &p, &patterns)?;
-        let placed = run_table(alloc, &p, &patterns, &table.numbers)?;
-        Ok(Model {
-            problem: p,
-            patterns,
-            rows: table.rows,
-            weights,
-            runs: placed.runs,
-            starts: placed.starts,
-        })
+        let made = made_of(alloc, &p)?;
+        Ok(Model { problem: p, made })
     }
 
     /// The problem.
@@ -73,7 +75,7 @@ impl Model {
         ensures few { length result.now ≤ 200000 }
     {
         pattern_laws();
-        &self.patterns
+        &self.made.patterns
     }
 
     /// The number of base rows.
@@ -81,7 +83,7 @@ impl Model {
         ensures count { result ≡ length (rows_of self.now) }
         ensures few { length (rows_of self.now) ≤ 4000 }
     {
-        self.rows.len() as u32
+        self.made.tables.rows.len() as u32
     }
 
     /// The base row of the number.
@@ -89,7 +91,7 @@ impl Model {
         requires { row < length (rows_of self.now) }
         ensures { result ≡ row_at (rows_of self.now) row }
     {
-        self.rows.as_slice()[row as usize]
+        self.made.tables.rows.as_slice()[row as usize]
     }
 
     /// The base rows that the pattern stands in, each once, as runs of rows that follow one another. A
@@ -98,9 +100,9 @@ impl Model {
         requires { pattern < length (patterns_of self.now) }
         ensures { AreBaseRunsOf (packing self.now) result.now pattern }
     {
-        let first = self.starts[pattern as usize];
-        let end = self.starts[pattern as usize + 1];
-        &self.runs[first..end]
+        let first = self.made.tables.starts[pattern as usize];
+        let end = self.made.tables.starts[pattern as usize + 1];
+        &self.made.tables.runs[first..end]
     }
 
     /// The weight of the pattern at the level, which is the number of a measure.
@@ -111,7 +113,7 @@ impl Model {
         ensures value { result ≡ (measured self.now).weight level pattern }
         ensures small { IsWithin (10 ^ 9) result }
     {
-        self.weights[pattern as usize][level as usize - 1]
+        self.made.tables.weights[pattern as usize][level as usize - 1]
     }
 
     /// Whether the two patterns clash.
@@ -131,4 +133,34 @@ impl Model {
     {
         self.problem.laws();
     }
+}
+
+/// The tables of the problem's patterns.
+fn tables_of(alloc: Global, p: &Problem, s: &PatternSet) -> Result<Tables, BuildFault>
+    requires listed { ArePatterns p.now s.now }
+    requires problem { IsProblem p.now }
+    requires are { s.now ≡ patterns_of p.now }
+    requires few { length s.now ≤ 200000 }
+    ensures { MakesTables p.now s.now result }
+{
+    let table = row_table(alloc, p, s)?;
+    let weights = weight_table(alloc, p, s)?;
+    let placed = run_table(alloc, p, s, &table.numbers)?;
+    Ok(Tables {
+        rows: table.rows,
+        weights,
+        runs: placed.runs,
+        starts: placed.starts,
+    })
+}
+
+/// The patterns of the problem with their tables.
+fn made_of(alloc: Global, p: &Problem) -> Result<Made, BuildFault>
+    requires { IsProblem p.now }
+    ensures { Makes p.now result }
+{
+    pattern_laws();
+    let patterns = PatternSet::all(alloc, p)?;
+    let tables = tables_of(alloc, p, &patterns)?;
+    Ok(Made { patterns, tables })
 }

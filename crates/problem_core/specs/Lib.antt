@@ -8,6 +8,7 @@ pub mod Courses
 pub mod Passing
 pub mod Valid
 pub mod Tables
+pub mod MadeTables
 pub mod Taken
 pub mod Grids
 pub mod OfParts

@@ -11,6 +11,7 @@ mod measures;
 mod over;
 mod parts;
 mod problem;
+mod tables;
 
 pub use choice::{Choice, Memory, RoomFault};
 pub use greedy::{first_choice, first_choice_laws};

@@ -8,11 +8,11 @@ ghost use Rattle.problem_core.specs.Kept.{IsWithin};
 ghost use Rattle.problem_core.specs.Measures.{points_of};
 ghost use Rattle.problem_core.specs.Facts.{suits, share_slot, admits, is_closed, course_of, event_at, hours_of, run_of};
 
-use crate::courses::{CourseTable, ROW, course_table};
-use crate::grid::{admitted, cell, closed, points};
-use crate::limit::{BuildFault, Limit, LimitKind};
-use crate::over::course_limit;
+use crate::courses::{CourseTable, ROW};
+use crate::grid::cell;
+use crate::limit::BuildFault;
 use crate::parts::{EventPart, Parts};
+use crate::tables::problem_tables;
 use std::alloc::Global;
 use std::marker::Model;
 
@@ -47,28 +47,13 @@ impl Problem {
         requires { IsTrue (well_formed parts) }
         ensures { Builds (facts_of parts) result }
     {
-        let count = parts.events.len();
-        if 4000 < count {
-            return Err(BuildFault::Limit(Limit {
-                kind: LimitKind::Meetings,
-                count: count as u64,
-                limit: 4000,
-            }));
-        }
-        let courses = course_table(alloc, &parts)?;
-        match course_limit(&parts, &courses) {
-            Some(limit) => return Err(BuildFault::Limit(limit)),
-            None => {}
-        }
-        let admitted = admitted(alloc, &parts)?;
-        let closed = closed(alloc, &parts)?;
-        let points = points(alloc, &parts)?;
+        let tables = problem_tables(alloc, &parts)?;
         Ok(Problem {
             parts,
-            courses,
-            admitted,
-            closed,
-            points,
+            courses: tables.courses,
+            admitted: tables.admitted,
+            closed: tables.closed,
+            points: tables.points,
         })
     }
 

@@ -2,7 +2,9 @@ ghost use Rattle.std.specs.Prelude.{◌≡◌, IfOk, map, true, length, None, �
 ghost use Rattle.ctt_reader.specs.Promised.{IsInstance};
 ghost use Rattle.timed_solution.specs.Times.{AreTimes};
 ghost use Rattle.measure_file.specs.Promised.{AreMeasures};
-ghost use Rattle.room_model.specs.ProblemOf.{parts_of, closed_slot};
+ghost use Rattle.room_model.specs.ProblemOf.{parts_of, closed_slot, sets_of};
+ghost use Rattle.ctt_reader.specs.declared.instance.Course.{Course};
+ghost use Rattle.ctt_reader.specs.declared.instance.Room.{Room};
 ghost use Rattle.room_model.specs.Long.{Converts, long_fault};
 ghost use Rattle.room_model.specs.declared.problem.ProblemFault.TheVariants.{Memory as OutOfMemory};
 
@@ -79,18 +81,108 @@ fn parts(
     requires measures { AreMeasures instance.now measures.now }
     ensures { IfOk result (λ p. p ≡ parts_of instance.now times.now measures.now) }
 {
-    let courses = instance.courses.as_slice();
-    let rooms = instance.rooms.as_slice();
-    let features = measures.features.len();
-    let students: Vec<u32> = courses.iter().map(|c| c.students).collect(alloc)?;
-    let capacity: Vec<u32> = rooms.iter().map(|r| r.capacity).collect(alloc)?;
+    let courses = course_parts(alloc, instance, measures)?;
+    let rooms = room_parts(alloc, instance, measures)?;
+    let wishes = wish_parts(alloc, calendar, measures)?;
     Ok(Parts {
-        students: Items::from(students),
-        needs: feature_sets(alloc, courses.len(), features, measures.needs.as_slice())?,
-        capacity: Items::from(capacity),
-        features: feature_sets(alloc, rooms.len(), features, measures.has.as_slice())?,
+        students: courses.students,
+        needs: courses.needs,
+        capacity: rooms.capacity,
+        features: rooms.features,
         slots: calendar.slots(),
         events: calendar.events(alloc, times.meetings.as_slice())?,
+        denied: wishes.denied,
+        closed: wishes.closed,
+        prefer: wishes.prefer,
+        robust: wishes.robust,
+    })
+}
+
+/// By course, its students and the features that it needs.
+#[derive(Drop)]
+struct CourseParts {
+    students: Items<u32>,
+    needs: Items<u128>,
+}
+
+/// What the files say of courses.
+fn course_parts(
+    alloc: Global,
+    instance: &Instance,
+    measures: &Measures,
+) -> Result<CourseParts, AllocError>
+    requires instance { IsInstance instance.now }
+    requires measures { AreMeasures instance.now measures.now }
+    ensures students { IfOk result (λ c. c.students ≡ map (λ (x : Course). x.students) instance.now.courses) }
+    ensures needs { IfOk result (λ c. c.needs ≡ sets_of (length instance.now.courses) measures.now.needs) }
+{
+    let courses = instance.courses.as_slice();
+    let students: Vec<u32> = courses.iter().map(|c| c.students).collect(alloc)?;
+    Ok(CourseParts {
+        students: Items::from(students),
+        needs: feature_sets(
+            alloc,
+            courses.len(),
+            measures.features.len(),
+            measures.needs.as_slice(),
+        )?,
+    })
+}
+
+/// By room, its capacity and the features that it has.
+#[derive(Drop)]
+struct RoomParts {
+    capacity: Items<u32>,
+    features: Items<u128>,
+}
+
+/// What the files say of rooms.
+fn room_parts(
+    alloc: Global,
+    instance: &Instance,
+    measures: &Measures,
+) -> Result<RoomParts, AllocError>
+    requires instance { IsInstance instance.now }
+    requires measures { AreMeasures instance.now measures.now }
+    ensures capacity { IfOk result (λ r. r.capacity ≡ map (λ (x : Room). x.capacity) instance.now.rooms) }
+    ensures features { IfOk result (λ r. r.features ≡ sets_of (length instance.now.rooms) measures.now.has) }
+{
+    let rooms = instance.rooms.as_slice();
+    let capacity: Vec<u32> = rooms.iter().map(|r| r.capacity).collect(alloc)?;
+    Ok(RoomParts {
+        capacity: Items::from(capacity),
+        features: feature_sets(
+            alloc,
+            rooms.len(),
+            measures.features.len(),
+            measures.has.as_slice(),
+        )?,
+    })
+}
+
+/// What an office wishes of rooms: denials, closures, preferences and the points of spare seats.
+#[derive(Drop)]
+struct WishParts {
+    denied: Items<(u32, u32)>,
+    closed: Items<(u32, u32)>,
+    prefer: Items<(u32, u32, i32)>,
+    robust: Items<(u32, i32)>,
+}
+
+/// What the measures wish of rooms.
+fn wish_parts(
+    alloc: Global,
+    calendar: &Calendar,
+    measures: &Measures,
+) -> Result<WishParts, AllocError>
+    requires instance { IsInstance calendar.now.instance }
+    requires measures { AreMeasures calendar.now.instance measures.now }
+    ensures denied { IfOk result (λ w. w.denied ≡ measures.now.denied) }
+    ensures closed { IfOk result (λ w. w.closed ≡ map (closed_slot calendar.now.instance.periods) measures.now.closed) }
+    ensures prefer { IfOk result (λ w. w.prefer ≡ measures.now.prefer) }
+    ensures robust { IfOk result (λ w. w.robust ≡ measures.now.robust) }
+{
+    Ok(WishParts {
         denied: Items::from_slice(alloc, measures.denied.as_slice())?,
         closed: calendar.closed_slots(alloc, measures.closed.as_slice())?,
         prefer: Items::from_slice(alloc, measures.prefer.as_slice())?,

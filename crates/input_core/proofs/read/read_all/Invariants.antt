@@ -11,6 +11,7 @@ invariant-pieces g l =
       room : length l.piece.items ≡ 65536;
       front : IsTrue (s.tells l.fn.shelf) → (all : List ℕ) → s.held l.fn.shelf l.name ≡ Some all → l.bytes.items ≡ take (length l.bytes.items) all;
       there : IsTrue (s.tells l.fn.shelf) → s.held l.fn.shelf l.name ≡ None → length l.bytes.items ≡ 0;
+      calls : s.piece_faults l.shelf ≡ s.piece_faults l.fn.shelf;
       only : OnlyReads s.tells s.held s.piece_faults s.put_faults l.fn.shelf l.shelf;
     }
 
