@@ -13,6 +13,7 @@ use Rattle.duality.specs.declared.row.RowName.TheVariants.{Base, Cut, Level}
 use Rattle.duality.specs.declared.row.Term.{Term}
 use Rattle.duality.specs.declared.leaf.Leaf.{Leaf}
 use Rattle.duality.specs.Packing.{Packing, Weights, Stage, Fixing, coefficient, right_side, is_there, has_sign, is_free, as_number, floor_weight, floor_number, floor_level, cut_at, target_of, AreCliques, IsPacking, meets_floor, Meets, Follows, IsFixing}
+use Rattle.duality.specs.Sums.{is_clique}
 use Rattle.duality.specs.Leaf.{priced, worth, reduced, term_fits, costs, left_side, is_under, closes, IsCapped}
 
 pub int_le-true : (a b : ℤ) → int_le a b ≡ true → a ≤ℤ b
@@ -43,6 +44,13 @@ clique_row k has mem packs clique =
     let b2 = and_parts (has q) (mem q) b in
     true≢false (sym (clique p q l m a2.1 b2.1) ∙ packs.apart p q (omega arith) m (λ e. absurd (omega arith)) a2.0 b2.0)) in
     omega (arith, ints)
+
+-- a choice takes at most one pattern of a base row or cut
+pub row_met : (k : Packing) (w : Weights) (s : Stage) (has : ℕ → Bool) (row : RowName) → AreCliques k s.cuts → IsPacking k has → is_there k w s row ≡ true → is_clique row ≡ true
+    → value has (coefficient k w s row) k.count ≤ℤ pos 1
+row_met k w s has (Base r) cliques packs there is = clique_row k has (k.in_base r) packs (λ p q l m. cliques.base r p q (ltb-true r k.base_len there) l m)
+row_met k w s has (Cut c) cliques packs there is = clique_row k has (λ p. member p (cut_at s c)) packs (λ p q l m. cliques.cut c p q (ltb-true c (length s.cuts) there) l m)
+row_met k w s has (Level j) cliques packs there is = absurd (true≢false (sym is))
 
 value-neg : (has : ℕ → Bool) (f : ℕ → ℤ) (n : ℕ) → value has (λ p. pos 0 -ℤ f p) n ≡ pos 0 -ℤ value has f n
 value-neg has f n =

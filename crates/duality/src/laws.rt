@@ -8,16 +8,16 @@ ghost use Rattle.duality.specs.declared.leaf.Leaf.{Leaf};
 ghost use Rattle.duality.specs.declared.leaf.LeafFault.TheVariants.{Cost};
 ghost use Rattle.duality.specs.declared.leaf.Node.{Node};
 ghost use Rattle.duality.specs.declared.leaf.Node.TheVariants as nodes;
-ghost use Rattle.duality.specs.Packing.{Packing, Weights, Stage, Fixing, AreCliques, IsFixing, IsPacking, Meets, Follows, is_there, level_coefficient, level_side};
+ghost use Rattle.duality.specs.Packing.{Packing, Weights, Stage, Fixing, AreCliques, IsFixing, IsPacking, Meets, Follows, coefficient, is_there, level_coefficient, level_side};
 ghost use Rattle.duality.specs.Leaf.{closes, costs, leaf_fault, cost_fault, priced, worth, reduced, IsCapped};
-ghost use Rattle.duality.specs.Sums.{times_of, clique_worth, clique_priced, level_sum, AreRowsOf};
+ghost use Rattle.duality.specs.Sums.{is_clique, times_of, clique_worth, clique_priced, level_sum, AreRowsOf};
 ghost use Rattle.duality.specs.Tree.{ProofTree, can_branch, ends_at, proves_all, proves_level, proves, preorder, nothing_fixed};
 ghost use Rattle.duality.specs.Walk.{Step, step_at, fixing_of, pending, pending_of, turn};
 
 /// Weak duality, whatever the objective: where a leaf closes, each choice of patterns that do not clash,
 /// that holds what is taken and nothing that is left out, and that meets the targets and the floor,
-/// weighs at most the value; against no value, and at scale 0, there is no such choice. A leaf closes
-/// exactly where it has no fault.
+/// weighs at most the value; against no value, and at scale 0, there is no such choice. Such a choice takes
+/// at most one pattern of each base row and cut. A leaf closes exactly where it has no fault.
 pub fn leaf_laws()
     ensures caps { (k : Packing) (w : Weights) (s : Stage) (f : Fixing) (leaf : Leaf) (has : ℕ → Bool)
         → AreCliques k s.cuts → IsFixing k f → pos 0 ≤ℤ leaf.scale → closes k w s f leaf ≡ true
@@ -26,6 +26,8 @@ pub fn leaf_laws()
     ensures empties { (k : Packing) (w : Weights) (s : Stage) (f : Fixing) (leaf : Leaf) (has : ℕ → Bool)
         → AreCliques k s.cuts → IsFixing k f → leaf.scale ≡ pos 0 → closes k w s f leaf ≡ true
         → IsPacking k has → Meets k w s has → Follows f has → ⊥ }
+    ensures meets { (k : Packing) (w : Weights) (s : Stage) (has : ℕ → Bool) (row : RowName)
+        → AreCliques k s.cuts → IsPacking k has → is_there k w s row ≡ true → is_clique row ≡ true → value has (coefficient k w s row) k.count ≤ℤ pos 1 }
     ensures faultless { (k : Packing) (w : Weights) (s : Stage) (f : Fixing) (leaf : Leaf) → leaf_fault k w s f leaf ≡ None ↔ closes k w s f leaf ≡ true }
     ensures lowest { (k : Packing) (w : Weights) (s : Stage) (f : Fixing) (leaf : Leaf) (p : ℕ) → cost_fault k w s f leaf ≡ Some (Cost p)
         → (p < k.count) × (costs k w s f leaf p ≡ true) × ((q : ℕ) → q < p → costs k w s f leaf q ≡ false) }

@@ -13,7 +13,10 @@ use Rattle.problem_core.specs.Passing.{any_passing}
 use Rattle.problem_core.specs.Courses.{is_of_course, place_of, events_of}
 use Rattle.problem_core.specs.Valid.{IsProblem}
 use Rattle.problem_core.specs.SharedSlots.{share_slot-sym}
-use Rattle.meeting_patterns.specs.Pattern.{has_bit, within, ArePatterns, pattern_at, is_same, share_event, share_a_slot, clash, chooses}
+use Rattle.meeting_patterns.specs.Pattern.{has_bit, within, ArePatterns, AreCoursesKnown, pattern_at, is_same, share_event, share_a_slot, clash, chooses}
+use Rattle.problem_core.specs.Courses.{passing}
+use Rattle.problem_core.specs.Passing.{IsNth, nth_is, at_place}
+use Rattle.meeting_patterns.proofs.ChosenLemmas.{holds_it, holder, holder_is, IsHolder}
 use Rattle.meeting_patterns.specs.Made.{made, IsMade, AreClashless}
 use Rattle.meeting_patterns.specs.declared.pattern.Pattern.{Pattern}
 use Rattle.meeting_patterns.proofs.ChosenLemmas.{held, chooses_from, same_pattern, before_differs}
@@ -238,3 +241,30 @@ made_step p s list events x left e old new some l el is same h so =
     ∙ ap (λ (y : ℕ). cond (within p x e) (x.room + 1) y) so
     ∙ ap (λ (y : Pattern). cond (within p y e) (y.room + 1) (made p s (drop left list) e)) is
     ∙ ap (λ (ys : List ℕ). made p s ys e) (sym front)
+
+-- ---- what a legal choice chooses makes the choice again
+
+pub made_again : (p : Facts) (s : List Pattern) (a list m : List ℕ) → AreCoursesKnown p → ArePatterns p s → IsLegal p a → list ≡ passing (λ i. chooses p a (pattern_at s i)) (length s) → IsMade p s list m
+    → (e : ℕ) → e < length p.events → entry m e ≡ entry a e
+unfolding holds_it
+made_again p s a list m courses are legal same is e l =
+    let test = λ (i : ℕ). chooses p a (pattern_at s i) in
+    let n = length s in
+    let whole : length list ≡ length (passing test n) = ap length same in
+    is.entries e l ∙ elim (cases_eq (made p s list e) 0) [
+      | inr some ↦
+          let by = made_by p s list e some in
+          let nth : IsNth test n by.0 (get_or list by.0 0) = subst (λ xs. IsNth test n by.0 (get_or xs by.0 0)) (sym same) (nth_is test n by.0 (omega (arith, by.1.there, whole))) in
+          let h = held p a (pattern_at s (get_or list by.0 0)) e nth.passes l by.1.holds in
+          by.1.room ∙ sym h.room
+      | inl none ↦ elim (cases_eq (entry a e) 0) [
+        | inl empty ↦ none ∙ sym empty
+        | inr some ↦
+            let h = holder_is p s a e courses are legal l some in
+            let parts = and_parts (chooses p a (pattern_at s (holder p s a e))) (within p (pattern_at s (holder p s a e)) e) h.holds in
+            let there = at_place test n (holder p s a e) h.known parts.0 in
+            let j = length (passing test (holder p s a e)) in
+            let at_j : get_or list j 0 ≡ holder p s a e = ap (λ xs. get_or xs j 0) same ∙ there.1 in
+            absurd (made_none p s list e j (omega (arith, there.0, whole)) (ap (λ i. within p (pattern_at s i) e) at_j ∙ parts.1) none)
+      ]
+    ]

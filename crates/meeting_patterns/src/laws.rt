@@ -3,7 +3,8 @@ ghost use Rattle.numbers.specs.Sums.{value, member};
 ghost use Rattle.problem_core.specs.Valid.{IsProblem};
 ghost use Rattle.meeting_patterns.specs.Made.{IsMade, AreClashless};
 ghost use Rattle.problem_core.specs.Facts.{Facts};
-ghost use Rattle.problem_core.specs.Choice.{IsLegal};
+ghost use Rattle.problem_core.specs.Choice.{IsLegal, entry};
+ghost use Rattle.problem_core.specs.Courses.{passing};
 ghost use Rattle.problem_core.specs.Measures.{measure};
 ghost use Rattle.meeting_patterns.specs.Pattern.{AreCoursesKnown, ArePatterns, patterns_of, pattern_at, clash, chooses, weight};
 ghost use Rattle.meeting_patterns.specs.declared.pattern.Pattern.{Pattern};
@@ -22,6 +23,8 @@ pub fn pattern_laws()
     ensures legal { (p : Facts) (s : List Pattern) (list a : List ℕ) → IsProblem p → ArePatterns p s → AreClashless p s list → IsMade p s list a → IsLegal p a }
     ensures back { (p : Facts) (s : List Pattern) (list a : List ℕ) → ArePatterns p s → AreClashless p s list → IsMade p s list a → (i : ℕ) → i < length s
         → chooses p a (pattern_at s i) ≡ member i list }
+    ensures returned { (p : Facts) (s : List Pattern) (a list made : List ℕ) → AreCoursesKnown p → ArePatterns p s → IsLegal p a → list ≡ passing (λ i. chooses p a (pattern_at s i)) (length s)
+        → IsMade p s list made → (e : ℕ) → e < length p.events → entry made e ≡ entry a e }
     ensures few { (p : Facts) (s : List Pattern) (list : List ℕ) → ArePatterns p s → AreClashless p s list → length list ≤ length p.events }
 {
     choice_laws();

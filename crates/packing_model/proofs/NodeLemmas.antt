@@ -17,7 +17,7 @@ use Rattle.duality.specs.declared.leaf.LeafFault.TheVariants.{Sign}
 use Rattle.duality.specs.Leaf.{terms_fault}
 use Rattle.duality.specs.Packing.{Packing, Weights, Stage, Fixing as Fixed, IsPacking, Meets, is_there, has_sign, floor_level}
 use Rattle.packing_model.specs.Nodes.{ok_unless, stage_at}
-use Rattle.packing_model.specs.Closing.{Caps, HasTargets, choice_of}
+use Rattle.packing_model.specs.Closing.{Caps, Empties, HasTargets, choice_of}
 use Rattle.problem_core.specs.Facts.{Facts}
 use Rattle.problem_core.specs.Measures.{measure}
 use Rattle.meeting_patterns.specs.Pattern.{patterns_of}
@@ -239,6 +239,14 @@ capped made p level targets shown best cuts f b same value_is caps packs sums ha
     subst (λ v. Caps (packing p) (measured p) (stage_at level targets (Some v) cuts) f) value_is (subst (λ q. Caps (packing p) (measured q) (stage_at level targets (Some shown) cuts) f) same caps) in
     let at_most = moved (choice_of p b) packs meets (record { one = all_in; zero = none_out }) in
     subst (λ z. z ≤ℤ best) (sums level) at_most
+
+pub emptied : (made p : Facts) (level : ℕ) (targets : List ℤ) (shown : ℤ) (cuts : List (List ℕ)) (f : Fixed) (b : List ℕ) → made ≡ p
+    → Empties (packing p) (measured made) (stage_at level targets (Some shown) cuts) f → IsPacking (packing p) (choice_of p b) → ((j : ℕ) → value (choice_of p b) ((measured p).weight j) (length (patterns_of p)) ≡ measure p j b)
+    → HasTargets p level targets b → list_all (choice_of p b) f.one ≡ true → list_any (choice_of p b) f.zero ≡ false → ⊥
+emptied made p level targets shown cuts f b same empties packs sums has all_in none_out =
+    let meets : Meets (packing p) (measured p) (stage_at level targets (Some shown) cuts) (choice_of p b) = record { targets = λ j l m. sums j ∙ has.each j l m; floor = refl } in
+    let moved : Empties (packing p) (measured p) (stage_at level targets (Some shown) cuts) f = subst (λ q. Empties (packing p) (measured q) (stage_at level targets (Some shown) cuts) f) same empties in
+    moved (choice_of p b) packs meets (record { one = all_in; zero = none_out })
 
 pub weaker : {A E P Q : Type 0} (r : Result A E) → IfOk r (λ _. P) → (P → Q) → IfOk r (λ _. Q)
 weaker (Ok a) h f = f h

@@ -66,6 +66,8 @@ pub fn leaf_closes(at: &At, leaf: &Leaf) -> Result<(), LeafFault>
     ensures caps { IfOk result (λ _. (b : List ℕ) → IsLegal at.now.model.now b → HasTargets at.now.model.now at.now.level at.now.targets.now b
         → list_all (choice_of at.now.model.now b) at.now.fixing.now.one ≡ true → list_any (choice_of at.now.model.now b) at.now.fixing.now.zero ≡ false
         → measure at.now.model.now at.now.level b ≤ℤ at.now.best) }
+    ensures empties { IfOk result (λ _. leaf.now.scale ≡ pos 0 → (b : List ℕ) → IsLegal at.now.model.now b → HasTargets at.now.model.now at.now.level at.now.targets.now b
+        → list_all (choice_of at.now.model.now b) at.now.fixing.now.one ≡ true → list_any (choice_of at.now.model.now b) at.now.fixing.now.zero ≡ false → ⊥) }
 {
     let measured = Measured::new(at.model);
     let node = ObjectiveAt {

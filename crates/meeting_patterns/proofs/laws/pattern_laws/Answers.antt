@@ -1,7 +1,7 @@
 use Rattle.meeting_patterns.proofs.ChosenLemmas.{apart}
 use Rattle.meeting_patterns.proofs.FewLemmas.{few_patterns}
 use Rattle.meeting_patterns.proofs.ListLemmas.{patterns_are}
-use Rattle.meeting_patterns.proofs.MadeLemmas.{made_legal, made_chooses}
+use Rattle.meeting_patterns.proofs.MadeLemmas.{made_legal, made_chooses, made_again}
 use Rattle.meeting_patterns.proofs.SumLemmas.{measured}
 use Rattle.meeting_patterns.specs.Pattern.{pattern_at}
 use Rattle.meeting_patterns.proofs.laws.pattern_laws.Goals as goal
@@ -13,5 +13,6 @@ returns c = record {
   measured = λ p s a courses are legal k. measured c.choice_laws.ensures.measured p s a courses are legal k;
   legal = made_legal;
   back = made_chooses;
+  returned = made_again;
   few = few_patterns c.choice_laws.ensures.few;
 }
