@@ -1,6 +1,6 @@
 -- The choice of a valid certificate is best in its levels.
 use Rattle.std.proofs.Common.{ℕ, ◌≡◌, ◌<◌, ◌≤◌, ◌-◌, arith, refl, sym, ◌∙◌, ap, subst, zero, suc, Bool, true, List, [], ◌∷◌, length, take, inl, inr}
-use Rattle.std.specs.Prelude.{ℤ, pos, ◌≤ℤ◌, ◌==◌, slice_index_or}
+use Rattle.std.specs.Prelude.{ℤ, pos, ◌≤ℤ◌, ◌==◌, slice_index_or, Some}
 use Rattle.std.proofs.lemmas.Bool.{true≢false, or_cases, eqb-true, cases_order}
 use Rattle.numbers.specs.Sums.{value, member}
 use Rattle.problem_core.specs.Facts.{Facts}
@@ -13,6 +13,7 @@ use Rattle.duality.specs.Leaf.{IsCapped}
 use Rattle.duality.specs.Tree.{proves_level}
 use Rattle.packing_model.specs.Rows.{in_cut}
 use Rattle.packing_model.specs.Built.{packing, measured}
+use Rattle.packing_model.specs.Closing.{HasTargets, choice_of}
 use Rattle.cert_text.specs.declared.lines.Certificate.{Certificate}
 use Rattle.cert_text.specs.Grammar.{opening_of}
 use Rattle.cert_checker.specs.Faults.{stage_for, value_at}
@@ -82,3 +83,12 @@ valid_best caps f laws n c few valid = record {
       let capped = caps (packing f) (measured f) (stage_for o k) (tree_at c.levels (k - 1)).nodes has cliques (valid.trees k l m) (laws.packs b legal) meets in
       subst (λ x. x ≤ℤ measure f k c.choice) (laws.weighs b legal k) (subst (λ v. value has ((measured f).weight k) (length (patterns_of f)) ≤ℤ v) (at k l (omega arith)) capped);
 }
+
+-- a tree that proves its level caps every legal choice with the targets
+pub tree_best : TreeCaps → (f : Facts) → PackingLaws f → (s : Stage) (v : ℤ) (nodes : List SearchNode) → AreCliques (packing f) s.cuts → s.best ≡ Some v → proves_level (packing f) (measured f) s nodes ≡ true
+    → (b : List ℕ) → IsLegal f b → HasTargets f s.level s.targets b → measure f s.level b ≤ℤ v
+tree_best caps f laws s v nodes cliques best proved b legal has =
+    let weight : ℤ = value (choice_of f b) ((measured f).weight s.level) (length (patterns_of f)) in
+    let meets : Meets (packing f) (measured f) s (choice_of f b) = record { targets = λ j l m. laws.weighs b legal j ∙ has.each j l m; floor = refl } in
+    let capped : IsCapped s.best weight = caps (packing f) (measured f) s nodes (choice_of f b) cliques proved (laws.packs b legal) meets in
+    subst (λ x. x ≤ℤ v) (laws.weighs b legal s.level) (subst (λ o. IsCapped o weight) best capped)
