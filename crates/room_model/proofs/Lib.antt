@@ -6,3 +6,4 @@ pub mod WellFormedLaws
 pub mod PlainLemmas
 pub mod GivenLemmas
 pub mod FeatureLaws
+pub mod ExistenceLaws

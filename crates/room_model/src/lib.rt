@@ -9,7 +9,7 @@ mod sets;
 
 pub use ctt_reader::{course_name, room_name};
 pub use given::given_choice;
-pub use long::LongFault;
+pub use long::{LongFault, existence_laws};
 pub use problem::{ProblemFault, to_problem};
 pub use sets::feature_laws;
 

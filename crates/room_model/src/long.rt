@@ -7,6 +7,7 @@ ghost use Rattle.timed_solution.specs.declared.times.Meeting.{Meeting};
 ghost use Rattle.room_model.specs.ProblemOf.{event_part};
 ghost use Rattle.room_model.specs.Long.{overlaps, share_slot, overlap_of, fault_after, long_from};
 ghost use Rattle.room_model.specs.Taken.{AreTaken};
+ghost use Rattle.room_model.specs.Existence.{NoneIsLong};
 
 use crate::calendar::Calendar;
 use problem_core::EventPart;
@@ -185,3 +186,9 @@ fn mark(taken: &mut [bool], columns: usize, row: usize, from: usize, count: usiz
         taken[row * columns + t] = true;
     }
 }
+
+/// The values of three files have a problem, which is that every meeting ends by its day's last period and no two
+/// of one course take a slot in common, exactly where no meeting is at fault. It computes nothing.
+pub fn existence_laws()
+    ensures { NoneIsLong }
+{}
