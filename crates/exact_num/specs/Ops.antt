@@ -12,11 +12,16 @@ use Rattle.exact_num.specs.Over.{lowest, IsOver, over_self, over_moved, over_sca
 
 infixl 6 ◌+ℚ◌
 infixl 7 ◌*ℚ◌
+
+-- a proof that stands in a definition needs a name: two calls of a tactic are two terms
+suc-positive : (k : ℕ) → pos 0 <ℤ pos (suc k)
+suc-positive k = omega (arith, ints)
+
 pub zero_ℚ : ℚ
-zero_ℚ = (lowest (pos 0) (pos 1) (omega (arith, ints))).0
+zero_ℚ = (lowest (pos 0) (pos 1) (suc-positive zero)).0
 
 pub one_ℚ : ℚ
-one_ℚ = (lowest (pos 1) (pos 1) (omega (arith, ints))).0
+one_ℚ = (lowest (pos 1) (pos 1) (suc-positive zero)).0
 
 pub ◌+ℚ◌ : ℚ → ℚ → ℚ
 a +ℚ b = (lowest ((a.num *ℤ b.den) +ℤ (b.num *ℤ a.den)) (a.den *ℤ b.den) (*ℤ-positive a.den b.den a.low.positive b.low.positive)).0
@@ -26,10 +31,6 @@ a *ℚ b = (lowest (a.num *ℤ b.num) (a.den *ℤ b.den) (*ℤ-positive a.den b.
 
 pub neg_ℚ : ℚ → ℚ
 neg_ℚ a = (lowest (neg_ℤ a.num) a.den a.low.positive).0
-
--- a proof that stands in a definition needs a name: two calls of a tactic are two terms
-suc-positive : (k : ℕ) → pos 0 <ℤ pos (suc k)
-suc-positive k = omega (arith, ints)
 
 pub times_one : (a : ℤ) → a *ℤ pos 1 ≡ a
 times_one (pos n) = ap pos (mul-one n)

@@ -8,12 +8,17 @@ ghost use Rattle.packing_model.specs.Cuts.{IsCutList, MakesCut, first_apart, fir
 use crate::model::Model as PackingModel;
 use std::alloc::{AllocError, Global};
 use std::marker::Model;
+use thiserror::Error;
 use values::Items;
 
 /// Why patterns are no cut: the first two of them that do not clash, or want of memory.
-#[derive(Clone, Copy, Debug, PartialEq, Eq)]
+#[derive(Clone, Copy, Debug, PartialEq, Eq, Error)]
 pub enum CutFault {
+    /// The two patterns do not clash.
+    #[error("patterns {first} and {second} do not clash")]
     NotClique { first: u32, second: u32 },
+    /// Memory ran out.
+    #[error("out of memory")]
     Memory,
 }
 

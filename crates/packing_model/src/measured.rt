@@ -23,11 +23,10 @@ impl<'a> Measured<'a> {
 }
 
 impl Objective for Measured<'_> {
-    ghost use Rattle.std.specs.Prelude.{None, length, pos};
-    ghost use Rattle.std.proofs.Common.{arith};
-    ghost use Rattle.std.proofs.lemmas.Int.{ints};
+    ghost use Rattle.std.specs.Prelude.{◌^◌, None, length, pos};
     ghost use Rattle.meeting_patterns.specs.Pattern.{patterns_of};
     ghost use Rattle.packing_model.specs.Built.{measured};
+    ghost use Rattle.packing_model.specs.Measures.{six_levels, none-within};
 
     ghost count = { λ o. length (patterns_of o.model.now) };
 
@@ -37,15 +36,15 @@ impl Objective for Measured<'_> {
 
     ghost floor = { λ _. None };
 
-    ghost few_levels = { λ o. Prim.omega arith };
+    ghost few_levels = { λ o. six_levels };
 
     ghost few_patterns = { λ o. o.small.few };
 
     ghost small_weight = { λ o level pattern low high known. o.small.each level pattern low high known };
 
-    ghost small_floor = { λ o pattern known. record { low = Prim.omega (arith, ints); high = Prim.omega (arith, ints) } };
+    ghost small_floor = { λ o pattern known. none-within (10 ^ 9) };
 
-    ghost small_number = { λ o. record { low = Prim.omega (arith, ints); high = Prim.omega (arith, ints) } };
+    ghost small_number = { λ o. none-within (10 ^ 12) };
 
     fn count(&self) -> u32 {
         self.model.patterns().len()

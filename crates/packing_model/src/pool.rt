@@ -8,15 +8,20 @@ use duality::RowName;
 use problem_core::Memory;
 use std::alloc::{AllocError, Global};
 use std::marker::Model;
+use thiserror::Error;
 use values::Items;
 
 /// The most cuts that a pool holds.
 pub const MOST_CUTS: usize = 1_000;
 
 /// Why a cut was not added: there are 1,000 cuts already, or want of memory.
-#[derive(Clone, Copy, Debug, PartialEq, Eq)]
+#[derive(Clone, Copy, Debug, PartialEq, Eq, Error)]
 pub enum PoolFault {
+    /// The pool holds 1,000 cuts.
+    #[error("the pool holds 1,000 cuts")]
     Full,
+    /// Memory ran out.
+    #[error("out of memory")]
     Memory,
 }
 
