@@ -11,7 +11,7 @@ use std::alloc::Global;
 use values::Items;
 
 /// A branch on the path to a node, and whether its pattern is taken there; else it is left out.
-#[derive(Clone, Copy, Debug, PartialEq, Eq)]
+#[derive(Clone, Copy)]
 pub struct Side {
     pub pattern: u32,
     pub inside: bool,
@@ -21,7 +21,7 @@ pub struct Side {
 /// by [`Walk::new`], and [`TreeAt::judge_node`] goes on from node to node.
 ///
 /// [`TreeAt::judge_node`]: crate::TreeAt::judge_node
-#[derive(Debug, Drop)]
+#[derive(Drop)]
 pub struct Walk {
     pub path: Items<Side>,
     pub fixing: Fixing,

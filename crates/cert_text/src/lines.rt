@@ -5,7 +5,7 @@ use values::Items;
 /// of base rows, the choice, the six values, the number of cuts and the cuts, then for each finished
 /// level its number and the nodes of its tree, then perhaps an unfinished level, and the end with the
 /// number of finished levels.
-#[derive(Debug, Drop)]
+#[derive(Drop)]
 pub enum CertLine {
     Head,
     Sizes { patterns: u32, rows: u32 },
@@ -21,14 +21,14 @@ pub enum CertLine {
 
 /// A tree as its nodes in preorder: a branch, then the part with its pattern left out, then the part with
 /// it taken.
-#[derive(Debug, Drop)]
+#[derive(Drop)]
 pub struct Tree {
     pub nodes: Items<Node>,
 }
 
 /// A certificate: the numbers of patterns and of base rows that it speaks of, a choice with its six values,
 /// the cuts, one tree a finished level, and perhaps the tree of the level that was not finished.
-#[derive(Debug, Drop)]
+#[derive(Drop)]
 pub struct Certificate {
     pub patterns: u32,
     pub rows: u32,

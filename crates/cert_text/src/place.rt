@@ -7,7 +7,7 @@ use duality::Node;
 
 /// What may come next in the text of a certificate, by counts alone: the line that is wanted, the number of
 /// finished levels, and in a list of cuts or in a tree how many more are wanted beyond the next.
-#[derive(Clone, Copy, Debug, PartialEq, Eq)]
+#[derive(Clone, Copy)]
 pub enum Place {
     Head,
     Sizes,

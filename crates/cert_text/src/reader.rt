@@ -61,7 +61,7 @@ pub fn next_line(bytes: &[u8]) -> Option<(&[u8], &[u8])>
 }
 
 /// What was read of a certificate, and the place of the next line.
-#[derive(Debug, Drop)]
+#[derive(Drop)]
 pub struct Reader {
     pub place: Place,
     pub certificate: Certificate,

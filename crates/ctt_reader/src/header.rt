@@ -12,7 +12,7 @@ use std::alloc::Global;
 use values::{Items, Text};
 
 /// The numbers of the header: how many lines each section has, and the days and their periods.
-#[derive(Clone, Copy, Debug)]
+#[derive(Clone, Copy)]
 pub struct Sizes {
     pub courses: u32,
     pub rooms: u32,

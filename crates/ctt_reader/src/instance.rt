@@ -1,7 +1,7 @@
 use values::{Items, Text};
 
 /// A course: `CourseID Teacher Lectures MinWorkingDays Students`.
-#[derive(Debug, Drop)]
+#[derive(Drop)]
 pub struct Course {
     pub name: Text,
     pub teacher: Text,
@@ -12,21 +12,21 @@ pub struct Course {
 }
 
 /// A room and how many students it seats.
-#[derive(Debug, Drop)]
+#[derive(Drop)]
 pub struct Room {
     pub name: Text,
     pub capacity: u32,
 }
 
 /// A curriculum: courses, by number, with students in common.
-#[derive(Debug, Drop)]
+#[derive(Drop)]
 pub struct Curriculum {
     pub name: Text,
     pub members: Items<u32>,
 }
 
 /// What an instance file says. Courses and rooms are numbered from 0 in the order of the file.
-#[derive(Debug, Drop)]
+#[derive(Drop)]
 pub struct Instance {
     /// The fields after `Name:`.
     pub title: Items<Text>,

@@ -58,7 +58,7 @@ pub trait Objective {
 
 /// What is added up over patterns: the weights of a level, or the coefficients of the floor's row, which
 /// are the floor's weights negated.
-#[derive(Clone, Copy, Debug, PartialEq, Eq)]
+#[derive(Clone, Copy)]
 pub enum Weighed {
     Level(u32),
     Floor,

@@ -12,7 +12,6 @@ use Rattle.exact_num.specs.Over.{lowest, IsOver, over_self, over_moved, over_sca
 
 infixl 6 ◌+ℚ◌
 infixl 7 ◌*ℚ◌
-
 -- a proof that stands in a definition needs a name: two calls of a tactic are two terms
 suc-positive : (k : ℕ) → pos 0 <ℤ pos (suc k)
 suc-positive k = omega (arith, ints)

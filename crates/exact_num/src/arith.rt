@@ -10,7 +10,7 @@ use crate::fraction::Fraction;
 use std::alloc::{AllocError, Global};
 
 /// A working number of the call does not fit.
-#[derive(Clone, Copy, Debug, PartialEq, Eq)]
+#[derive(Clone, Copy, PartialEq, Eq)]
 pub struct Wide;
 
 /// Memory ran out.
@@ -24,14 +24,14 @@ impl From<AllocError> for Memory {
 }
 
 /// Fractions over one denominator: `nums[i] / den` is the i-th of them.
-#[derive(Debug, Drop)]
+#[derive(Drop)]
 pub struct Common {
     pub nums: Vec<i128>,
     pub den: i128,
 }
 
 /// Why fractions were not brought over one denominator.
-#[derive(Clone, Copy, Debug, PartialEq, Eq)]
+#[derive(Clone, Copy, PartialEq, Eq)]
 pub enum CommonFault {
     /// The least common denominator, or a numerator over it, does not fit or is larger in size than 10^24.
     Wide,

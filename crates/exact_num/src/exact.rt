@@ -26,7 +26,7 @@ fn raised(wides: u64) -> u64
 
 /// Arithmetic on fractions of 128-bit parts, where sizes up to 2^127 - 1 fit. Contracts see it as its
 /// count of refusals.
-#[derive(Debug, Drop)]
+#[derive(Drop)]
 pub struct Exact128 {
     wides: u64,
 }
@@ -113,7 +113,7 @@ impl Arith for Exact128 {
 
 /// Arithmetic on fractions of 64-bit parts, where sizes up to 2^63 - 1 fit. Contracts see it as its
 /// count of refusals.
-#[derive(Debug, Drop)]
+#[derive(Drop)]
 pub struct Exact64 {
     wides: u64,
 }
@@ -224,7 +224,7 @@ impl Arith for Exact64 {
 
 /// Arithmetic in which nothing fits: each call is refused and counted. A caller meets its own refusals
 /// with it. Contracts see it as its count of refusals.
-#[derive(Debug, Drop)]
+#[derive(Drop)]
 pub struct Refusing {
     wides: u64,
 }

@@ -9,7 +9,7 @@ use std::cmp::Ordering;
 pub(crate) const BOUND_128: u128 = 1 << 127;
 
 /// A fraction whose parts have at most 127 bits.
-#[derive(Clone, Copy, Debug, PartialEq, Eq, Hash)]
+#[derive(Clone, Copy, PartialEq, Eq, Hash)]
 pub struct Frac128 {
     pub(crate) num: i128,
     pub(crate) den: i128,

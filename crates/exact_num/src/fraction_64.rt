@@ -9,7 +9,7 @@ use std::cmp::Ordering;
 pub(crate) const BOUND_64: u128 = 1 << 63;
 
 /// A fraction whose parts have at most 63 bits.
-#[derive(Clone, Copy, Debug, PartialEq, Eq, Hash)]
+#[derive(Clone, Copy, PartialEq, Eq, Hash)]
 pub struct Frac64 {
     pub(crate) num: i64,
     pub(crate) den: i64,

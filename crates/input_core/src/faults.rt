@@ -5,7 +5,7 @@ use itoa::Buffer;
 use std::alloc::{AllocError, Global};
 
 /// Want of memory.
-#[derive(Clone, Copy, Debug, PartialEq, Eq)]
+#[derive(Clone, Copy, Debug)]
 pub struct Memory;
 
 impl From<AllocError> for Memory {

@@ -6,11 +6,11 @@ ghost use Rattle.input_core.specs.declared.shelf.PutFault.TheVariants.{Memory};
 use std::alloc::AllocError;
 
 /// A piece could not be read.
-#[derive(Clone, Copy, Debug, PartialEq, Eq)]
+#[derive(Clone, Copy)]
 pub struct Fault;
 
 /// Why bytes were not put or written.
-#[derive(Clone, Copy, Debug, PartialEq, Eq)]
+#[derive(Clone, Copy, PartialEq, Eq)]
 pub enum PutFault {
     Fault,
     Memory,

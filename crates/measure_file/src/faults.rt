@@ -5,7 +5,7 @@ use input_core::{LineFault, LineKind, Memory, TextFault};
 use std::alloc::AllocError;
 
 /// Why a line was not added.
-#[derive(Clone, Copy, Debug, PartialEq, Eq)]
+#[derive(Clone, Copy)]
 pub enum EntryFault {
     Kind(LineKind),
     Memory,

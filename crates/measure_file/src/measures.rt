@@ -2,7 +2,7 @@ use values::{Items, Text};
 
 /// What a measures file says. Courses and rooms are those of the instance, by number; features are numbered from 0
 /// in the order of first appearance in the file. Each list has its lines in the order of the file.
-#[derive(Debug, Drop)]
+#[derive(Drop)]
 pub struct Measures {
     /// The names of the features.
     pub features: Items<Text>,

@@ -4,14 +4,14 @@ ghost use Rattle.measure_file.specs.Grammar.{length_word, version_in, version_of
 use input_core::{Fields, LineKind};
 
 /// The version of a measures file. Lengths are listed from version 2 on.
-#[derive(Clone, Copy, Debug, PartialEq, Eq)]
+#[derive(Clone, Copy)]
 pub enum FileVersion {
     One,
     Two,
 }
 
 /// The first field of a line.
-#[derive(Clone, Copy, Debug, PartialEq, Eq)]
+#[derive(Clone, Copy)]
 pub enum Word {
     Has,
     Need,

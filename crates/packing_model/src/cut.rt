@@ -34,7 +34,7 @@ impl From<AllocError> for CutFault {
 }
 
 /// Patterns that clash in pairs, of which a choice has at most one. Contracts see the list.
-#[derive(Debug, Drop)]
+#[derive(Drop)]
 pub struct Cut {
     patterns: Items<u32>,
 }

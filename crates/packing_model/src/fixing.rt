@@ -6,7 +6,7 @@ use std::alloc::Global;
 use values::Items;
 
 /// Patterns that are left out, and patterns that are taken.
-#[derive(Debug, Drop)]
+#[derive(Drop)]
 pub struct Fixing {
     /// The patterns that are left out.
     pub zero: Items<u32>,

@@ -1,5 +1,5 @@
 /// A row over patterns. All but the level rows say "at most one of these patterns".
-#[derive(Clone, Copy, Debug, PartialEq, Eq)]
+#[derive(Clone, Copy, PartialEq, Eq)]
 pub enum Row {
     /// The patterns that hold the event.
     Event(u32),

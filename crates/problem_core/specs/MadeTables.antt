@@ -13,6 +13,6 @@ use Rattle.problem_core.specs.declared.limit.BuildFault.TheVariants.{Limit as Ov
 abbrev pub MakesTables : Parts → Result ProblemTables BuildFault → Type 0
 MakesTables p (Ok t) =
     AreKept p × AreTables (facts_of p) t.courses.sizes.items t.courses.order.items t.courses.places.items t.admitted.items t.closed.items t.points.items
-        × (limit_of (facts_of p) ≡ None)
+    × (limit_of (facts_of p) ≡ None)
 MakesTables p (Err (Over limit)) = limit_of (facts_of p) ≡ Some limit
 MakesTables p (Err Memory) = Unit {0}

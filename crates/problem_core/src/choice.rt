@@ -2,7 +2,7 @@ use std::alloc::AllocError;
 use values::Items;
 
 /// Memory ran out.
-#[derive(Clone, Copy, Debug, PartialEq, Eq)]
+#[derive(Clone, Copy, Debug)]
 pub struct Memory;
 
 impl From<AllocError> for Memory {
@@ -14,13 +14,13 @@ impl From<AllocError> for Memory {
 }
 
 /// Rooms for the events of a problem: one entry an event, 0 for no room, else the room's number + 1.
-#[derive(Debug, Drop)]
+#[derive(Drop)]
 pub struct Choice {
     pub entries: Items<u32>,
 }
 
 /// What keeps a choice from being legal.
-#[derive(Clone, Copy, Debug, PartialEq, Eq)]
+#[derive(Clone, Copy, PartialEq, Eq)]
 pub enum RoomFault {
     /// The event's room doesn't suit it.
     Unsuitable { event: u32 },

@@ -5,7 +5,7 @@ use crate::choice::Memory;
 use std::alloc::AllocError;
 
 /// A number that has a limit.
-#[derive(Clone, Copy, Debug, PartialEq, Eq)]
+#[derive(Clone, Copy, Debug)]
 pub enum LimitKind {
     /// Meetings in all.
     Meetings,
@@ -18,7 +18,7 @@ pub enum LimitKind {
 }
 
 /// A number that is over its limit.
-#[derive(Clone, Copy, Debug, PartialEq, Eq)]
+#[derive(Clone, Copy, Debug)]
 pub struct Limit {
     pub kind: LimitKind,
     pub count: u64,
@@ -26,7 +26,7 @@ pub struct Limit {
 }
 
 /// Why there is no problem, or no model of one.
-#[derive(Clone, Copy, Debug, PartialEq, Eq)]
+#[derive(Clone, Copy, Debug)]
 pub enum BuildFault {
     /// A number is over its limit.
     Limit(Limit),

@@ -35,7 +35,7 @@ fn points_up_to(x: u32, rows: &[(u32, i32)]) -> i32
 }
 
 /// What events add to the six measures.
-#[derive(Clone, Copy, Debug, PartialEq, Eq)]
+#[derive(Clone, Copy)]
 pub struct Sums {
     pub hours: i64,
     pub students: i64,

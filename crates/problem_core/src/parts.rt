@@ -5,7 +5,7 @@ ghost use Rattle.problem_core.specs.OfParts.{well_formed, lists_fit, numbers_fit
 use values::Items;
 
 /// A meeting: its course, its first slot, and how many slots it takes from there on.
-#[derive(Clone, Copy, Debug, PartialEq, Eq)]
+#[derive(Clone, Copy)]
 pub struct EventPart {
     pub course: u32,
     pub slot: u32,

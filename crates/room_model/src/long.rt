@@ -15,7 +15,7 @@ use std::alloc::{AllocError, Global};
 use timed_solution::Meeting;
 
 /// What keeps meetings of several periods from being held as they are planned.
-#[derive(Clone, Copy, Debug, PartialEq, Eq)]
+#[derive(Clone, Copy, Debug)]
 pub enum LongFault {
     /// The event goes on past the last period of its day.
     PastDay { event: u32 },

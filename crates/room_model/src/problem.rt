@@ -19,7 +19,7 @@ use timed_solution::Times;
 use values::Items;
 
 /// Why the files give no problem.
-#[derive(Clone, Copy, Debug, PartialEq, Eq)]
+#[derive(Clone, Copy, Debug)]
 pub enum ProblemFault {
     /// A meeting is too long for its day, or for another one of its course.
     Long(LongFault),

@@ -11,7 +11,7 @@ use std::alloc::Global;
 use values::Items;
 
 /// A course in a slot, and its room: 0 for none, else the room's number + 1.
-#[derive(Clone, Copy, Debug, PartialEq, Eq)]
+#[derive(Clone, Copy, PartialEq, Eq)]
 pub struct Meeting {
     pub course: u32,
     pub room: u32,
@@ -20,7 +20,7 @@ pub struct Meeting {
 }
 
 /// The meetings of a timed solution, in the order of its lines.
-#[derive(Debug, Drop)]
+#[derive(Drop)]
 pub struct Times {
     pub meetings: Items<Meeting>,
 }
