@@ -1,7 +1,7 @@
 use Rattle.std.proofs.Common.{◌≡◌, map}
 use Rattle.exact_num.specs.Ops.{◌*ℚ◌}
 use Rattle.exact_num.specs.Sums.{sum_ℚ, entry_ℚ}
-use Rattle.exact_num.proofs.tests.dot.Given as goal
+use Rattle.worked_cases.proofs.fractions.dot.Given as goal
 
 abbrev pub invariant-loop-i : goal.invariant-loop-i
 invariant-loop-i g l = record {

@@ -1,4 +1,6 @@
-use super::*;
+use duality::{
+    Leaf, Objective, RowName, Run, Term, is_under, left_side, level_times, reduced_cost,
+};
 use std::test::Fail;
 use values::Items;
 
@@ -65,9 +67,9 @@ fn one_term(rt: HostRuntime) -> Result<(), Fail> {
     let leaf = Leaf { scale: 1, terms };
     let times = level_times(leaf.terms.as_slice());
     let cost = reduced_cost(&Numbered, 2, &leaf, &times, &base, &[], 0);
-    assert_eq!(rt; cost, 0);
+    assert!(rt; cost == 0);
     let left = left_side(&Numbered, 2, &leaf, &times, &[1], &[], 0);
-    assert_eq!(rt; left, 2);
+    assert!(rt; left == 2);
     assert!(rt; is_under(Some(2), leaf.scale, left));
     assert!(rt; !is_under(Some(1), leaf.scale, left));
     assert!(rt; !is_under(None, leaf.scale, left));

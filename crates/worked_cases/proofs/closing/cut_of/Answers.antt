@@ -1,7 +1,7 @@
 use Rattle.std.proofs.Common.{◌≤◌, length, arith, ap}
 use Rattle.meeting_patterns.specs.Pattern.{patterns_of}
 use Rattle.packing_model.proofs.ListLemmas.{known_below}
-use Rattle.packing_model.proofs.tests.closing.cut_of.Goals as goal
+use Rattle.worked_cases.proofs.closing.cut_of.Goals as goal
 
 pub new-requires-2 : goal.new-requires-2
 new-requires-2 c =

@@ -4,7 +4,7 @@ use Rattle.exact_num.specs.Q.{ℚ}
 use Rattle.exact_num.specs.Ops.{◌+ℚ◌, ◌*ℚ◌, zero_ℚ, +ℚ_comm}
 use Rattle.exact_num.specs.Sums.{sum_ℚ, sum_ℚ-more, entry_ℚ}
 use Rattle.exact_num.specs.Whole.{int_ℚ-zero}
-use Rattle.exact_num.proofs.tests.dot.Goals as goal
+use Rattle.worked_cases.proofs.fractions.dot.Goals as goal
 
 entry_here : {N : Type 0} (value : N → ℚ) (xs : List N) (i : ℕ) (x : N) → i < length xs → x ≡ get_or xs i x → entry_ℚ (map value xs) i ≡ value x
 entry_here value xs i x l e = get_or-map value xs i x zero_ℚ l ∙ ap value (sym e)

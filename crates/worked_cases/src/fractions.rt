@@ -3,7 +3,7 @@ ghost use Rattle.exact_num.specs.Order.{◌≤ℚ◌};
 ghost use Rattle.exact_num.specs.Sums.{dot_ℚ};
 ghost use Rattle.exact_num.specs.Arith.{Rose};
 
-use crate::{
+use exact_num::{
     Arith, Common, CommonFault, Exact64, Exact128, Frac64, Frac128, Fraction, Refusing, Wide,
 };
 use std::hash::{DefaultHasher, Hash, Hasher};
@@ -33,12 +33,12 @@ fn least<F: Fraction>(first: F, second: F) -> F
 #[test]
 fn refuses(rt: HostRuntime) -> Result<(), Fail> {
     let mut refusing = Refusing::new();
-    assert_eq!(rt; refusing.from_int(0), Err(Wide));
+    assert!(rt; refusing.from_int(0) == Err(Wide));
     let none: [Frac64; 0] = [];
     assert!(rt; is_wide(refusing.common(rt.alloc(), &none)));
-    assert_eq!(rt; refusing.wide_count(), 2);
-    assert_eq!(rt; dot(&mut refusing, &none, &none), Err(Wide));
-    assert_eq!(rt; refusing.wide_count(), 3);
+    assert!(rt; refusing.wide_count() == 2);
+    assert!(rt; dot(&mut refusing, &none, &none) == Err(Wide));
+    assert!(rt; refusing.wide_count() == 3);
     Ok(())
 }
 
@@ -59,8 +59,8 @@ fn hash_of(x: &Frac128) -> u64 {
 fn makes_fractions(rt: HostRuntime) -> Result<(), Fail> {
     let half = Frac128::new(1, 2).ok_or("a half")?;
     let same = Frac128::new(2, 4).ok_or("two quarters")?;
-    assert_eq!(rt; half, same);
-    assert_eq!(rt; hash_of(&half), hash_of(&same));
+    assert!(rt; half == same);
+    assert!(rt; hash_of(&half) == hash_of(&same));
     let low = i128::MIN;
     for (num, den, want) in [
         (1, 0, None),
@@ -76,7 +76,7 @@ fn makes_fractions(rt: HostRuntime) -> Result<(), Fail> {
         (low + 1, 1, Some((low + 1, 1))),
     ] {
         let parts = Frac128::new(num, den).map(|x| (x.num(), x.den()));
-        assert_eq!(rt; parts, want, "at {num} / {den}");
+        assert!(rt; parts == want, "at {num} / {den}");
     }
     let low = i64::MIN;
     for (num, den, want) in [
@@ -87,7 +87,7 @@ fn makes_fractions(rt: HostRuntime) -> Result<(), Fail> {
         (10, -15, Some((-2, 3))),
     ] {
         let parts = Frac64::new(num, den).map(|x| (x.num(), x.den()));
-        assert_eq!(rt; parts, want, "at {num} / {den}");
+        assert!(rt; parts == want, "at {num} / {den}");
     }
     Ok(())
 }
@@ -112,7 +112,7 @@ fn orders(rt: HostRuntime) -> Result<(), Fail> {
         let more = Frac128::new(c, d).ok_or("the greater")?;
         assert!(rt; less < more, "{a} / {b} and {c} / {d}");
         assert!(rt; more > less, "{c} / {d} and {a} / {b}");
-        assert_eq!(rt; least(more, less), less);
+        assert!(rt; least(more, less) == less);
     }
     Ok(())
 }
@@ -124,27 +124,27 @@ fn counts_what_does_not_fit(rt: HostRuntime) -> Result<(), Fail> {
         .from_int(i128::from(i64::MAX))
         .ok()
         .ok_or("2^63 - 1 fits")?;
-    assert_eq!(rt; exact.from_int(1 << 63), Err(Wide));
-    assert_eq!(rt; exact.wide_count(), 1);
+    assert!(rt; exact.from_int(1 << 63) == Err(Wide));
+    assert!(rt; exact.wide_count() == 1);
     let one = Frac64::new(1, 1).ok_or("1")?;
-    assert_eq!(rt; exact.add(top, one), Err(Wide));
-    assert_eq!(rt; exact.wide_count(), 2);
+    assert!(rt; exact.add(top, one) == Err(Wide));
+    assert!(rt; exact.wide_count() == 2);
     let half = Frac64::new(1, 2);
     let third = Frac64::new(1, 3).ok_or("1/3")?;
     let sixth = Frac64::new(1, 6).ok_or("1/6")?;
-    assert_eq!(rt; exact.add(third, sixth).ok(), half);
-    assert_eq!(rt; exact.sub(third, sixth), Ok(sixth));
-    assert_eq!(rt; exact.div(sixth, third).ok(), half);
+    assert!(rt; exact.add(third, sixth).ok() == half);
+    assert!(rt; exact.sub(third, sixth) == Ok(sixth));
+    assert!(rt; exact.div(sixth, third).ok() == half);
     let left = Frac64::new(1 << 62, 3).ok_or("2^62/3")?;
     let right = Frac64::new(3, 1 << 61).ok_or("3/2^61")?;
-    assert_eq!(rt; exact.mul(left, right).ok(), Frac64::new(2, 1));
+    assert!(rt; exact.mul(left, right).ok() == Frac64::new(2, 1));
     let common = exact
         .common(rt.alloc(), &[half.ok_or("1/2")?, third])
         .ok()
         .ok_or("common")?;
-    assert_eq!(rt; common.den, 6);
-    assert_eq!(rt; common.nums.as_slice(), [3, 2].as_slice());
-    assert_eq!(rt; exact.wide_count(), 2);
+    assert!(rt; common.den == 6);
+    assert!(rt; common.nums.as_slice() == [3, 2].as_slice());
+    assert!(rt; exact.wide_count() == 2);
     Ok(())
 }
 
@@ -157,19 +157,19 @@ fn adds_products(rt: HostRuntime) -> Result<(), Fail> {
         left.push(Frac128::new(a, b).ok_or("left")?)?;
         right.push(Frac128::new(c, d).ok_or("right")?)?;
     }
-    assert_eq!(rt; left.len(), right.len());
+    assert!(rt; left.len() == right.len());
     let sum = dot(&mut exact, left.as_slice(), right.as_slice());
-    assert_eq!(rt; sum.ok(), Frac128::new(-7, 5));
+    assert!(rt; sum.ok() == Frac128::new(-7, 5));
     let mut short = Exact64::new();
     let half = Frac64::new(1, 2).ok_or("1/2")?;
-    assert_eq!(rt; dot(&mut short, &[half], &[half]).ok(), Frac64::new(1, 4));
+    assert!(rt; dot(&mut short, &[half], &[half]).ok() == Frac64::new(1, 4));
     let third = Frac128::new(-1, 3).ok_or("-1/3")?;
     let quarter = Frac128::new(3, 4).ok_or("3/4")?;
-    assert_eq!(rt; exact.sub(third, quarter).ok(), Frac128::new(-13, 12));
-    assert_ne!(rt; third.num(), 0);
-    assert_eq!(rt; exact.div(quarter, third).ok(), Frac128::new(-9, 4));
+    assert!(rt; exact.sub(third, quarter).ok() == Frac128::new(-13, 12));
+    assert!(rt; third.num() != 0);
+    assert!(rt; exact.div(quarter, third).ok() == Frac128::new(-9, 4));
     let large = Frac128::new(1_000_000_000_000_000_000_000_001, 2).ok_or("large")?;
     assert!(rt; is_wide(exact.common(rt.alloc(), &[large])));
-    assert_eq!(rt; exact.wide_count(), 1);
+    assert!(rt; exact.wide_count() == 1);
     Ok(())
 }

@@ -6,30 +6,16 @@ ghost use Rattle.packing_model.specs.Built.{packing};
 ghost use Rattle.packing_model.specs.Rising.{is_rising};
 ghost use Rattle.packing_model.specs.Nodes.{IsValidFixing};
 
-use super::*;
+use crate::model::{Task, judge};
+use crate::shape::{closed_once, one_meeting, week};
 use duality::is_before;
-
-/// One course of 10 with one meeting, and one room.
-fn smallest() -> Case<'static> {
-    Case {
-        students: &[10],
-        needs: &[0],
-        meetings: &[(0, 0)],
-        capacity: &[20],
-        features: &[0],
-        slots: 1,
-        denied: &[],
-        closed: &[],
-        prefer: &[],
-        robust: &[],
-    }
-}
-
-/// The model of the case.
-fn model_of(alloc: Global, case: &Case) -> Result<Model, Fail> {
-    let problem = problem(alloc, parts(alloc, case)?)?;
-    Ok(Model::build(alloc, problem)?)
-}
+use packing_model::{
+    At, Cut, CutFault, Fixing, Leaf, LeafFault, Model, Pool, PoolFault, RowName, Term, leaf_closes,
+};
+use std::alloc::{AllocError, Global};
+use std::process::Abort;
+use std::test::Fail;
+use values::Items;
 
 /// What is done with the first pattern.
 #[derive(Clone, Copy)]
@@ -133,10 +119,10 @@ fn verdict(
         return Err(Fail::new("the scale is out of bounds"));
     }
     let fixing = fixing_of(alloc, model, first)?;
-    judge(alloc, model, &fixing, targets, best, leaf)
+    close(alloc, model, &fixing, targets, best, leaf)
 }
 
-fn judge(
+fn close(
     alloc: Global,
     model: &Model,
     fixing: &Fixing,
@@ -177,173 +163,115 @@ struct SmallLeaf {
     best: i64,
     first: First,
     scale: i128,
-    row: Option<RowName>,
-    times: i128,
+    term: Option<(RowName, i128)>,
     verdict: Result<(), LeafFault>,
 }
 
-/// Leaves at the levels of the smallest model.
+/// Leaves at the levels of the model of one meeting that say something of its pattern.
 fn small_leaves() -> [SmallLeaf; 17] {
     let most = 1_000_000_000_000_000_000_000_000;
-    let free = First::Free;
-    let one = Some(RowName::Base(0));
+    let base = RowName::Base(0);
     let cost = Err(LeafFault::Cost { pattern: 0 });
     let sign = Err(LeafFault::Sign { at: 0 });
     let row = Err(LeafFault::Row { at: 0 });
-    let bound = Err(LeafFault::Bound);
+    let first_level = SmallLeaf {
+        targets: &[],
+        best: 1,
+        first: First::Free,
+        scale: 1,
+        term: None,
+        verdict: Ok(()),
+    };
+    let second = SmallLeaf {
+        targets: &[1],
+        best: 10,
+        ..first_level
+    };
+    let fourth = SmallLeaf {
+        targets: &[1, 10, 500],
+        best: 0,
+        ..first_level
+    };
+    let fifth = SmallLeaf {
+        targets: &[1, 10, 500, 0],
+        best: -1,
+        ..first_level
+    };
     [
         SmallLeaf {
-            targets: &[],
-            best: 1,
-            first: free,
-            scale: 1,
-            row: one,
-            times: 1,
-            verdict: Ok(()),
+            term: Some((base, 1)),
+            ..first_level
         },
         SmallLeaf {
-            targets: &[],
-            best: 1,
-            first: free,
-            scale: 1,
-            row: Some(RowName::Base(1)),
-            times: 1,
-            verdict: Ok(()),
+            term: Some((RowName::Base(1), 1)),
+            ..first_level
         },
         SmallLeaf {
-            targets: &[],
-            best: 1,
-            first: free,
             scale: most,
-            row: one,
-            times: most,
-            verdict: Ok(()),
+            term: Some((base, most)),
+            ..first_level
         },
         SmallLeaf {
-            targets: &[],
-            best: 1,
-            first: free,
-            scale: 1,
-            row: None,
-            times: 0,
             verdict: cost,
+            ..first_level
         },
         SmallLeaf {
-            targets: &[],
-            best: 1,
             first: First::LeftOut,
-            scale: 1,
-            row: None,
-            times: 0,
-            verdict: Ok(()),
+            ..first_level
         },
         SmallLeaf {
-            targets: &[],
-            best: 1,
             first: First::Taken,
-            scale: 1,
-            row: None,
-            times: 0,
-            verdict: Ok(()),
+            ..first_level
         },
         SmallLeaf {
-            targets: &[1],
-            best: 10,
-            first: free,
-            scale: 1,
-            row: one,
-            times: 10,
-            verdict: Ok(()),
+            term: Some((base, 10)),
+            ..second
         },
         SmallLeaf {
-            targets: &[1],
-            best: 10,
-            first: free,
-            scale: 1,
-            row: one,
-            times: 9,
+            term: Some((base, 9)),
             verdict: cost,
+            ..second
         },
         SmallLeaf {
-            targets: &[1],
-            best: 10,
-            first: free,
-            scale: 1,
-            row: one,
-            times: 11,
-            verdict: bound,
+            term: Some((base, 11)),
+            verdict: Err(LeafFault::Bound),
+            ..second
         },
         SmallLeaf {
-            targets: &[1],
-            best: 10,
-            first: free,
-            scale: 1,
-            row: one,
-            times: -1,
+            term: Some((base, -1)),
             verdict: sign,
+            ..second
         },
         SmallLeaf {
             targets: &[1, 10],
             best: 500,
-            first: free,
-            scale: 1,
-            row: one,
-            times: 500,
-            verdict: Ok(()),
+            term: Some((base, 500)),
+            ..first_level
         },
+        fourth,
         SmallLeaf {
-            targets: &[1, 10, 500],
-            best: 0,
-            first: free,
-            scale: 1,
-            row: None,
-            times: 0,
-            verdict: Ok(()),
-        },
-        SmallLeaf {
-            targets: &[1, 10, 500],
-            best: 0,
-            first: free,
             scale: 0,
-            row: None,
-            times: 0,
-            verdict: bound,
+            verdict: Err(LeafFault::Bound),
+            ..fourth
         },
         SmallLeaf {
-            targets: &[1, 10, 500, 0],
-            best: -1,
-            first: free,
-            scale: 1,
-            row: Some(RowName::Level(1)),
-            times: -1,
-            verdict: Ok(()),
+            term: Some((RowName::Level(1), -1)),
+            ..fifth
         },
         SmallLeaf {
-            targets: &[1, 10, 500, 0],
-            best: -1,
-            first: free,
-            scale: 1,
-            row: Some(RowName::Level(2)),
-            times: -1,
+            term: Some((RowName::Level(2), -1)),
             verdict: cost,
+            ..fifth
         },
         SmallLeaf {
-            targets: &[1, 10, 500, 0],
-            best: -1,
-            first: free,
-            scale: 1,
-            row: Some(RowName::Level(5)),
-            times: -1,
+            term: Some((RowName::Level(5), -1)),
             verdict: row,
+            ..fifth
         },
         SmallLeaf {
             targets: &[1, 10, 500, 0, -1],
             best: 0,
-            first: free,
-            scale: 1,
-            row: None,
-            times: 0,
-            verdict: Ok(()),
+            ..first_level
         },
     ]
 }
@@ -351,11 +279,8 @@ fn small_leaves() -> [SmallLeaf; 17] {
 /// The leaf of one term at most.
 fn leaf_of(alloc: Global, case: &SmallLeaf) -> Result<Leaf, AllocError> {
     let mut terms = Items::new(alloc);
-    if let Some(row) = case.row {
-        terms.push(Term {
-            row,
-            times: case.times,
-        })?;
+    if let Some((row, times)) = case.term {
+        terms.push(Term { row, times })?;
     }
     Ok(Leaf {
         scale: case.scale,
@@ -363,25 +288,19 @@ fn leaf_of(alloc: Global, case: &SmallLeaf) -> Result<Leaf, AllocError> {
     })
 }
 
-/// The first of the leaves whose verdict is another.
-fn first_wrong(alloc: Global, model: &Model, cases: &[SmallLeaf]) -> Result<Option<usize>, Fail> {
-    for (i, case) in cases.iter().enumerate() {
-        let leaf = leaf_of(alloc, case)?;
+/// What is said of each of the small leaves.
+pub fn judge_small_leaves(rt: &impl Abort, alloc: Global, model: &Model) -> Result<(), Fail> {
+    for case in small_leaves() {
+        let leaf = leaf_of(alloc, &case)?;
         let found = verdict(alloc, model, case.first, case.targets, case.best, &leaf)?;
-        if found != case.verdict {
-            return Ok(Some(i));
-        }
+        assert!(rt; found == case.verdict);
     }
-    Ok(None)
+    Ok(())
 }
 
 #[test]
 fn judges_leaves_of_one_pattern(rt: HostRuntime) -> Result<(), Fail> {
-    let alloc = rt.alloc();
-    let model = model_of(alloc, &smallest())?;
-    let wrong = first_wrong(alloc, &model, small_leaves().as_slice())?;
-    assert_eq!(rt; wrong, None);
-    Ok(())
+    judge(&rt, rt.alloc(), &one_meeting(), Task::SmallLeaves)
 }
 
 /// A leaf of scale 1 at a level of the week: the multiplier of each meeting's row by its course, what is
@@ -448,8 +367,12 @@ fn week_leaves() -> [WeekLeaf; 6] {
     ]
 }
 
-/// The leaf over the rows of the meetings, given by course and slot, which are the first base rows.
-fn week_leaf(alloc: Global, meetings: &[(u32, u32)], case: &WeekLeaf) -> Result<Leaf, AllocError> {
+/// The leaf over the rows of the meetings, given by course, slot and length, which are the first base rows.
+fn week_leaf(
+    alloc: Global,
+    meetings: &[(u32, u32, u32)],
+    case: &WeekLeaf,
+) -> Result<Leaf, AllocError> {
     let mut terms = Items::new(alloc);
     let mut row: u32 = 0;
     let mut last = u32::MAX;
@@ -479,27 +402,22 @@ fn multiplier(case: &WeekLeaf, course: u32, last: u32) -> i128 {
     }
 }
 
-/// The first of the leaves that does not close, or closes against one less than its best value.
-fn first_loose(alloc: Global, model: &Model, cases: &[WeekLeaf]) -> Result<Option<usize>, Fail> {
-    for (i, case) in cases.iter().enumerate() {
-        let leaf = week_leaf(alloc, week().meetings, case)?;
+/// Each of the week's leaves closes, and does not close against one less than its best value.
+pub fn judge_week(rt: &impl Abort, alloc: Global, model: &Model) -> Result<(), Fail> {
+    for case in week_leaves() {
+        let leaf = week_leaf(alloc, week().meetings, &case)?;
         let closed = verdict(alloc, model, First::Free, case.targets, case.best, &leaf)?;
+        assert!(rt; closed == Ok(()));
         let less = case.best.wrapping_sub(1);
         let above = verdict(alloc, model, First::Free, case.targets, less, &leaf)?;
-        if closed != Ok(()) || above != Err(LeafFault::Bound) {
-            return Ok(Some(i));
-        }
+        assert!(rt; above == Err(LeafFault::Bound));
     }
-    Ok(None)
+    Ok(())
 }
 
 #[test]
 fn closes_the_levels_of_a_week(rt: HostRuntime) -> Result<(), Fail> {
-    let alloc = rt.alloc();
-    let model = model_of(alloc, &week())?;
-    let loose = first_loose(alloc, &model, week_leaves().as_slice())?;
-    assert_eq!(rt; loose, None);
-    Ok(())
+    judge(&rt, rt.alloc(), &week(), Task::Week)
 }
 
 /// The cut of the patterns, which are below 4, where the model has so many.
@@ -515,90 +433,61 @@ fn cut_of(alloc: Global, model: &Model, patterns: &[u32]) -> Result<Result<Cut, 
     Ok(Cut::new(alloc, model, patterns))
 }
 
-/// Why the patterns of the model of four are no cut, where they are none.
-fn cut_fault(alloc: Global, patterns: &[u32]) -> Result<Option<CutFault>, Fail>
+/// Why the patterns, which are below 4, are no cut, where they are none.
+fn fault_of(alloc: Global, model: &Model, patterns: &[u32]) -> Result<Option<CutFault>, Fail>
     requires some { 2 ≤ length patterns.now }
     requires few { length patterns.now ≤ 1000 }
     requires rising { is_rising patterns.now ≡ true }
     requires known { list_all (λ p. nat_lt p 4) patterns.now ≡ true }
 {
-    let model = small_model(alloc)?;
-    match cut_of(alloc, &model, patterns)? {
-        Ok(_) => Ok(None),
-        Err(fault) => Ok(Some(fault)),
-    }
+    Ok(cut_of(alloc, model, patterns)?.err())
 }
 
-#[test]
-fn refuses_patterns_that_do_not_clash(rt: HostRuntime) -> Result<(), Fail> {
-    let apart = CutFault::NotClique {
-        first: 0,
-        second: 2,
-    };
-    assert_eq!(rt; cut_fault(rt.alloc(), &[0, 1, 2])?, Some(apart));
+/// The last three of four patterns are a cut.
+fn judge_cut(rt: &impl Abort, alloc: Global, model: &Model) -> Result<(), Fail> {
+    let cut = cut_of(alloc, model, &[1, 2, 3])??;
+    assert!(rt; cut.patterns() == [1, 2, 3].as_slice());
     Ok(())
 }
 
-/// The patterns of the cut of the last three of four patterns.
-fn cut_patterns(alloc: Global) -> Result<Items<u32>, Fail> {
-    let model = small_model(alloc)?;
-    let cut = cut_of(alloc, &model, &[1, 2, 3])??;
-    Ok(Items::from_slice(alloc, cut.patterns())?)
-}
-
-#[test]
-fn keeps_the_patterns_of_a_cut(rt: HostRuntime) -> Result<(), Fail> {
-    let patterns = cut_patterns(rt.alloc())?;
-    assert_eq!(rt; patterns.as_slice(), [1, 2, 3].as_slice());
-    Ok(())
-}
-
-/// A pool of so many times the cut of the last three of four patterns, and the last answer.
-fn pool_of(
+/// Adds that cut so many times, and gives the last answer.
+fn add_times(
     alloc: Global,
     model: &Model,
+    pool: &mut Pool,
     count: u32,
-) -> Result<(Pool, Result<u32, PoolFault>), Fail> {
-    let mut pool = Pool::new(alloc);
+) -> Result<Result<u32, PoolFault>, Fail> {
     let mut answer = Ok(0);
     for _ in 0..count {
         answer = pool.add(cut_of(alloc, model, &[1, 2, 3])??);
     }
-    Ok((pool, answer))
+    Ok(answer)
 }
 
-/// The last answer of such a pool, how many cuts it has, and how many of them the second pattern has.
-fn pool_sizes(alloc: Global, count: u32) -> Result<(Result<u32, PoolFault>, u32, usize), Fail> {
-    let (pool, answer) = pool_of(alloc, &small_model(alloc)?, count)?;
-    Ok((answer, pool.len(), pool.cut_rows(1).len()))
-}
-
-#[test]
-fn takes_a_thousand_cuts(rt: HostRuntime) -> Result<(), Fail> {
-    let full = pool_sizes(rt.alloc(), 1_001)?;
-    assert_eq!(rt; full, (Err(PoolFault::Full), 1_000, 1_000));
+/// The cuts of a pattern are listed, and a pool takes a thousand and no more.
+fn judge_pool(rt: &impl Abort, alloc: Global, model: &Model, pool: &mut Pool) -> Result<(), Fail> {
+    assert!(rt; add_times(alloc, model, pool, 2)? == Ok(1));
+    assert!(rt; pool.cut_rows(3) == [RowName::Cut(0), RowName::Cut(1)].as_slice());
+    assert!(rt; pool.cut_rows(0).is_empty());
+    assert!(rt; add_times(alloc, model, pool, 999)? == Err(PoolFault::Full));
+    assert!(rt; pool.len() == 1_000);
+    assert!(rt; pool.cut_rows(1).len() == 1_000);
     Ok(())
 }
 
-/// The cuts of the pattern in such a pool of two.
-fn two_cuts(alloc: Global, pattern: u32) -> Result<Items<RowName>, Fail> {
-    let (pool, _) = pool_of(alloc, &small_model(alloc)?, 2)?;
-    Ok(Items::from_slice(alloc, pool.cut_rows(pattern))?)
+/// What is said of cuts of the model of four patterns, of which the first and the third don't clash.
+pub fn judge_cuts(rt: &impl Abort, alloc: Global, model: &Model) -> Result<(), Fail> {
+    let apart = CutFault::NotClique {
+        first: 0,
+        second: 2,
+    };
+    assert!(rt; fault_of(alloc, model, &[0, 1, 2])? == Some(apart));
+    judge_cut(rt, alloc, model)?;
+    let mut pool = Pool::new(alloc);
+    judge_pool(rt, alloc, model, &mut pool)
 }
 
 #[test]
-fn lists_the_cuts_of_a_pattern(rt: HostRuntime) -> Result<(), Fail> {
-    let rows = two_cuts(rt.alloc(), 3)?;
-    assert_eq!(rt;
-        rows.as_slice(),
-        [RowName::Cut(0), RowName::Cut(1)].as_slice()
-    );
-    Ok(())
-}
-
-#[test]
-fn lists_no_cut_of_a_pattern_in_none(rt: HostRuntime) -> Result<(), Fail> {
-    let rows = two_cuts(rt.alloc(), 0)?;
-    assert_eq!(rt; rows.as_slice(), [].as_slice());
-    Ok(())
+fn adds_cuts_to_a_pool(rt: HostRuntime) -> Result<(), Fail> {
+    judge(&rt, rt.alloc(), &closed_once(), Task::Cuts)
 }
