@@ -14,6 +14,3 @@ pub use laws::certificate_laws;
 pub use tree::TreeAt;
 pub use verdict::{Reason, Verdict};
 pub use walk::{Side, Walk};
-
-#[cfg(test)]
-mod tests;

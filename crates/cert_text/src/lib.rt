@@ -20,6 +20,3 @@ pub use lines::{CertLine, Certificate, Tree};
 pub use place::{Place, step};
 pub use reader::{Reader, next_line, read_cert};
 pub use writer::write_cert;
-
-#[cfg(test)]
-mod tests;

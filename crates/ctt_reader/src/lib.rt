@@ -14,6 +14,3 @@ pub use names::{
 };
 pub use reader::read_ctt;
 pub use writer::write_ctt;
-
-#[cfg(test)]
-mod tests;

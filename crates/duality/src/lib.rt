@@ -18,6 +18,3 @@ pub use sums::{
     added, clique_worth, is_before, is_same, level_times, priced_cliques, priced_levels, product,
     times_of, weigh, weight_of, worth_levels,
 };
-
-#[cfg(test)]
-mod tests;

@@ -22,6 +22,3 @@ pub use fraction_64::Frac64;
 pub use fraction_128::Frac128;
 pub use law::laws;
 pub use steps::Steps;
-
-#[cfg(test)]
-mod tests;

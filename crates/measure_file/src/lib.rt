@@ -17,6 +17,3 @@ mod writer;
 pub use measures::Measures;
 pub use reader::read_measures;
 pub use writer::{is_numbered_as_written, write_measures};
-
-#[cfg(test)]
-mod tests;

@@ -26,6 +26,3 @@ pub use model::Model;
 pub use point::Point;
 pub use pool::{Pool, PoolFault};
 pub use row::Row;
-
-#[cfg(test)]
-mod tests;

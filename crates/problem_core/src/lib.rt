@@ -19,6 +19,3 @@ pub use limit::{BuildFault, Limit, LimitKind};
 pub use measures::better;
 pub use parts::{EventPart, Parts};
 pub use problem::Problem;
-
-#[cfg(test)]
-mod tests;

@@ -12,6 +12,3 @@ pub use given::given_choice;
 pub use long::{LongFault, existence_laws};
 pub use problem::{ProblemFault, to_problem};
 pub use sets::feature_laws;
-
-#[cfg(test)]
-mod tests;

@@ -13,6 +13,3 @@ mod value_lines;
 
 pub use command::run;
 pub use status::Status;
-
-#[cfg(test)]
-mod tests;

@@ -74,20 +74,3 @@ pub fn read_back_laws()
     ensures lines { (lines : List (List (List ℕ))) → list_all (list_all is_field) lines ≡ true → unread (written lines) ≡ unread_of lines }
     ensures numbers { (n : ℕ) → n < 10 ^ 9 → number_of (decimal n) ≡ Some n }
 {}
-
-#[cfg(test)]
-mod tests {
-    use super::*;
-    use std::test::Fail;
-
-    #[test]
-    fn writes_a_line(rt: HostRuntime) -> Result<(), Fail> {
-        let mut text = Vec::new(rt.alloc());
-        push_field(&mut text, b"C1")?;
-        push_number(&mut text, 40)?;
-        push_last(&mut text, b"R1")?;
-        push_last_number(&mut text, 0)?;
-        assert_eq!(rt; text.as_slice(), b"C1 40 R1\n0\n".as_slice());
-        Ok(())
-    }
-}

@@ -8,6 +8,3 @@ mod writer;
 
 pub use times::{Meeting, Times, read_times};
 pub use writer::write_solution;
-
-#[cfg(test)]
-mod tests;

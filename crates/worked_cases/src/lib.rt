@@ -1,0 +1,22 @@
+//! Worked cases of fractions, problems, patterns, rows, certificates and limits, through the public calls of their crates:
+//! tests alone.
+#![tactic(auto)]
+
+#[cfg(test)]
+mod certificate;
+#[cfg(test)]
+mod closing;
+#[cfg(test)]
+mod fractions;
+#[cfg(test)]
+mod limits;
+#[cfg(test)]
+mod model;
+#[cfg(test)]
+mod packing;
+#[cfg(test)]
+mod problem;
+#[cfg(test)]
+mod shape;
+#[cfg(test)]
+mod terms;

@@ -1,0 +1,47 @@
+use std::alloc::{AllocError, Global};
+
+/// The words of the program, and which calls fail.
+#[derive(Drop)]
+pub struct Case {
+    pub words: Vec<String>,
+    pub failing: Vec<u64>,
+    pub sink_failing: Vec<(u64, usize)>,
+}
+
+/// The case of such words.
+pub fn case_of(alloc: Global, words: &str) -> Result<Case, AllocError> {
+    let mut case = Case {
+        words: Vec::new(alloc),
+        failing: Vec::new(alloc),
+        sink_failing: Vec::new(alloc),
+    };
+    for word in words.split_ascii_whitespace() {
+        take_word(alloc, word, &mut case)?;
+    }
+    Ok(case)
+}
+
+fn take_word(alloc: Global, word: &str, case: &mut Case) -> Result<(), AllocError> {
+    if let Some(call) = failing_call(word) {
+        case.failing.push(call)?;
+        return Ok(());
+    }
+    if let Some(call) = failing_write(word) {
+        case.sink_failing.push(call)?;
+        return Ok(());
+    }
+    let word = String::from_str(alloc, word)?;
+    case.words.push(word)?;
+    Ok(())
+}
+
+/// The number of a failing call of the shelf, if the word is one.
+fn failing_call(word: &str) -> Option<u64> {
+    word.strip_prefix('!')?.parse().ok()
+}
+
+/// The number of a failing call of the sink, and after how many bytes it fails, if the word says so.
+fn failing_write(word: &str) -> Option<(u64, usize)> {
+    let (call, count) = word.split_once(':')?;
+    Some((call.parse().ok()?, count.parse().ok()?))
+}

@@ -1,0 +1,14 @@
+//! Worked cases of the outside of the program, of the readers and writers of its files, and of the text of a
+//! certificate, through the public calls of their crates: tests alone.
+#![tactic(auto)]
+
+#[cfg(test)]
+mod certificate;
+#[cfg(test)]
+mod instance;
+#[cfg(test)]
+mod measures;
+#[cfg(test)]
+mod outside;
+#[cfg(test)]
+mod times;
