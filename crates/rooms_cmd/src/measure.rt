@@ -2,6 +2,7 @@ ghost use Rattle.std.specs.Prelude.{◌≡◌, IfOk, IfErr};
 ghost use Rattle.input_core.specs.Shelf.{OnlyReads};
 ghost use Rattle.room_model.specs.ProblemOf.{problem_of};
 ghost use Rattle.rooms_cmd.specs.Run.{MeasureExplains, Stops, RoomsExplain};
+ghost use Rattle.rooms_cmd.specs.Calls.{NoReadOfStepFailed};
 ghost use Rattle.ctt_reader.specs.Promised.{IsInstance};
 ghost use Rattle.timed_solution.specs.Times.{AreTimes};
 
@@ -28,6 +29,7 @@ pub fn measure<S: Shelf>(
 ) -> Result<Answer, Stop>
     ensures answers { IfOk result (λ a. MeasureExplains (S.tells shelf.old) (S.held shelf.old) instance_name.now times_name.now measures_name.now (S.piece_faults shelf.old) (S.piece_faults shelf.new) a.text.items a.status) }
     ensures stops { IfErr result (Stops (MeasureExplains (S.tells shelf.old) (S.held shelf.old) instance_name.now times_name.now measures_name.now (S.piece_faults shelf.old) (S.piece_faults shelf.new))) }
+    ensures calls { NoReadOfStepFailed (S.piece_faults shelf.old) (S.piece_faults shelf.new) result }
     ensures only { OnlyReads S.tells S.held S.piece_faults S.put_faults shelf.old shelf.new }
 {
     let loaded = load_three(alloc, shelf, instance_name, times_name, measures_name)?;
