@@ -21,8 +21,9 @@ use input_core::{PutFault, Shelf, Sink};
 use std::alloc::Global;
 
 /// Runs the command that the words give: `solve INSTANCE TIMES`, `check INSTANCE TIMES MEASURES CERT`
-/// or `measure INSTANCE TIMES MEASURES`. The words are
-/// those after the program's name. One text is made whole and written by one call.
+/// or `measure INSTANCE TIMES MEASURES`. The words are those after the program's name. One text is made whole and
+/// written by one call. Unless the status is `ReadFault`, `WriteFault` or `Memory`, no call of the shelf and none of
+/// the sink has failed; with `ReadFault` none of the sink.
 pub fn run<S: Shelf, O: Sink>(alloc: Global, words: &[String], shelf: &mut S, out: &mut O) -> Status
     ensures done { result ≡ statuses.Done → Prints (O.written out.old) (O.written out.new) (λ text. IsSolve (words_of words.now) (λ n k. IsDone (S.tells shelf.old) (S.held shelf.old) n k text) ⊎ (IsMeasure (words_of words.now) (λ n k l. IsMeasured (S.tells shelf.old) (S.held shelf.old) n k l text) ⊎ IsCheck (words_of words.now) (λ n k l c. IsVerified (S.tells shelf.old) (S.held shelf.old) n k l c text))) }
     ensures no { result ≡ statuses.No → Prints (O.written out.old) (O.written out.new) (λ text. IsMeasure (words_of words.now) (λ n k l. IsIllegal (S.tells shelf.old) (S.held shelf.old) n k l text) ⊎ IsCheck (words_of words.now) (λ n k l c. IsNotVerified (S.tells shelf.old) (S.held shelf.old) n k l c text)) }

@@ -4,7 +4,7 @@ ghost use Rattle.measure_file.specs.Grammar.{no_measures};
 ghost use Rattle.rooms_cmd.specs.Plain.{plain_problem};
 ghost use Rattle.problem_core.specs.Limits.{limit_of};
 ghost use Rattle.ctt_reader.specs.Promised.{IsInstance};
-ghost use Rattle.rooms_cmd.specs.Run.{SolveExplains, Stops, PlaceExplains, ProblemStops};
+ghost use Rattle.rooms_cmd.specs.Run.{SolveExplains, Stops, PlaceExplains, ProblemStops, IsProblem};
 ghost use Rattle.rooms_cmd.specs.Calls.{NoReadOfStepFailed};
 ghost use Rattle.timed_solution.specs.Times.{AreTimes};
 
@@ -46,9 +46,19 @@ fn solve_loaded(alloc: Global, instance: &Instance, times: &Times) -> Result<Ans
     ensures answers { IfOk result (λ a. PlaceExplains instance.now times.now a.text.items a.status) }
     ensures stops { IfErr result (Stops (ProblemStops instance.now times.now no_measures)) }
 {
-    let measures = no_measures(alloc);
-    let problem = load_problem(alloc, instance, times, &measures)?;
+    let problem = plain_problem(alloc, instance, times)?;
     place(alloc, instance, times, &problem)
+}
+
+/// The problem of the instance and its times without measures.
+fn plain_problem(alloc: Global, instance: &Instance, times: &Times) -> Result<Problem, Stop>
+    requires instance { IsInstance instance.now }
+    requires times { AreTimes instance.now times.now.meetings }
+    ensures problem { IfOk result (IsProblem instance.now times.now no_measures) }
+    ensures stops { IfErr result (Stops (ProblemStops instance.now times.now no_measures)) }
+{
+    let measures = no_measures(alloc);
+    load_problem(alloc, instance, times, &measures)
 }
 
 /// What a file without fields lists.
