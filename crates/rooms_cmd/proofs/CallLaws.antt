@@ -1,5 +1,5 @@
 -- Which calls have failed, from step to step.
-use Rattle.std.proofs.Common.{ℕ, ◌≡◌, ◌≤◌, inl, inr, sym, subst, List}
+use Rattle.std.proofs.Common.{ℕ, ◌≡◌, inl, inr, sym, subst, List}
 use Rattle.std.specs.Prelude.{Option, Result, Ok, Err}
 use Rattle.input_core.specs.Causes.{next_count}
 use Rattle.rooms_cmd.specs.Calls.{NoReadFailed, NoReadOfStepFailed, NoWriteFailed, WritesOnce}

@@ -1,5 +1,5 @@
 -- The exit status of the program.
-use Rattle.std.specs.Prelude.{ℕ, ◌≡◌, List, Bool, Option, if◌then◌else◌}
+use Rattle.std.specs.Prelude.{ℕ, ◌≡◌, List, Bool, Option}
 use Rattle.rooms_cmd.specs.Numbers.{number_of}
 use Rattle.rooms_cmd.specs.Run.{Held}
 use Rattle.rooms_cmd.specs.Ends.{RunEnds}

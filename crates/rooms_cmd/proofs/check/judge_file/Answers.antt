@@ -1,4 +1,4 @@
-use Rattle.std.proofs.Common.{subst, ◌∙◌}
+use Rattle.std.proofs.Common.{subst}
 use Rattle.std.proofs.lemmas.Result.{IfOk-weaker, IfErr-weaker}
 use Rattle.rooms_cmd.specs.Checks.{VerdictExplains}
 use Rattle.rooms_cmd.proofs.CheckLaws.{no_stop}

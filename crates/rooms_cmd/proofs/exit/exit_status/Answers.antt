@@ -1,4 +1,4 @@
-use Rattle.std.proofs.Common.{◌≡◌, subst, ap, ◌∙◌}
+use Rattle.std.proofs.Common.{◌≡◌, ap, ◌∙◌}
 use Rattle.std.specs.Prelude.{drop}
 use Rattle.rooms_cmd.specs.Words.{words_of}
 use Rattle.rooms_cmd.proofs.ExitLaws.{run_ends, ends_of, if_ok}

@@ -1,6 +1,5 @@
 use Rattle.std.proofs.Common.{rules, ◌∙◌}
-use Rattle.std.proofs.lemmas.Result.{IfOk-weaker, IfErr-weaker}
-use Rattle.input_core.proofs.ReadLemmas.{OnlyReads-then}
+use Rattle.std.proofs.lemmas.Result.{IfErr-weaker}
 use Rattle.rooms_cmd.proofs.SolveLaws.{placing_answer, gives_times_later, times_stopping, problem_stopping}
 use Rattle.rooms_cmd.proofs.CallLaws.{reads_nothing}
 use Rattle.rooms_cmd.proofs.solve.solve.Goals as goal
