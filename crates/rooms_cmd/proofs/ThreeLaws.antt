@@ -5,24 +5,12 @@ use Rattle.std.proofs.Math.Path.{fun_ext}
 use Rattle.ctt_reader.specs.declared.instance.Instance.{Instance}
 use Rattle.timed_solution.specs.declared.times.Times.{Times}
 use Rattle.measure_file.specs.declared.measures.Measures.{Measures}
-use Rattle.rooms_cmd.specs.Run.{Held, GivesInstance, GivesTimes, GivesMeasures, IsFaultyInstance, IsFaultyTimes, IsFaultyMeasures, FileStops, IsUnreadOfThree, ThreeStop, ProblemStops, Stops}
+use Rattle.rooms_cmd.specs.Run.{Held, GivesInstance, GivesTimes, GivesMeasures, IsFaultyTimes, IsFaultyMeasures, FileStops, IsUnreadOfThree, ThreeStop, ProblemStops, Stops}
 use Rattle.rooms_cmd.specs.declared.answer.Stop.{Stop}
 use Rattle.rooms_cmd.specs.declared.answer.Stop.TheVariants as stops
 use Rattle.rooms_cmd.specs.declared.status.Status.{Status}
 use Rattle.rooms_cmd.specs.declared.status.Status.TheVariants.{Done, No, Usage, BadInput, ReadFault, WriteFault, Memory, Unplaced}
 use Rattle.rooms_cmd.proofs.SolveLaws.{unread_earlier}
-
--- the instance stops the command
-pub instance_stop : (tells : Bool) (held : Held) (n k l : List ℕ) (before now : ℕ) (text : List ℕ) (status : Status)
-    → FileStops tells (held n) before now (IsFaultyInstance tells (held n)) n text status → ThreeStop tells held n k l before now text status
-instance_stop tells held n k l before now text Done h = absurd h
-instance_stop tells held n k l before now text No h = absurd h
-instance_stop tells held n k l before now text Usage h = h
-instance_stop tells held n k l before now text BadInput h = inl h
-instance_stop tells held n k l before now text ReadFault h = inl (inl h)
-instance_stop tells held n k l before now text WriteFault h = h
-instance_stop tells held n k l before now text Memory h = h
-instance_stop tells held n k l before now text Unplaced h = h
 
 -- the times stop the command, whose instance was read
 times_stop : (tells : Bool) (held : Held) (n k l : List ℕ) (i : Instance) (before now : ℕ) (text : List ℕ) (status : Status)
