@@ -18,7 +18,7 @@ use Rattle.cert_text.specs.declared.lines.Certificate.{Certificate}
 use Rattle.cert_text.specs.Grammar.{opening_of}
 use Rattle.cert_checker.specs.Faults.{stage_for, value_at}
 use Rattle.cert_checker.specs.Verdicts.{IsClique, IsValid, tree_at}
-use Rattle.cert_checker.proofs.ClashLaws.{clash_back}
+use Rattle.search_nodes.proofs.ClashLaws.{clash_back}
 
 abbrev pub TreeCaps : Type 0
 TreeCaps = (k : Packing) (w : Weights) (s : Stage) (nodes : List SearchNode) (has : ℕ → Bool)

@@ -9,13 +9,14 @@ use Rattle.duality.specs.declared.leaf.Leaf.{Leaf}
 use Rattle.duality.specs.declared.leaf.LeafFault.{LeafFault}
 use Rattle.duality.specs.declared.leaf.LeafFault.TheVariants as faults
 use Rattle.duality.specs.declared.leaf.Node.{Node as SearchNode}
-use Rattle.duality.specs.declared.leaf.Node.TheVariants.{Branch, Leaf as Closing, OpenEnd}
+use Rattle.duality.specs.declared.leaf.Node.TheVariants.{Branch, Leaf as Closing, OpenEnd, Same}
 use Rattle.duality.specs.Packing.{Packing, Weights, Stage, Fixing, is_free}
 use Rattle.duality.specs.Leaf.{closes, leaf_fault}
 use Rattle.duality.specs.Tree.{can_branch, ends_at, proves_all, proves_level, with_zero, with_one, nothing_fixed}
 use Rattle.problem_core.specs.Facts.{Facts}
 use Rattle.cert_text.specs.declared.lines.Tree.{Tree}
-use Rattle.cert_text.specs.Grammar.{Opening, fills, is_open, is_closed_tree}
+use Rattle.duality.specs.After.{is_open}
+use Rattle.cert_text.specs.Grammar.{Opening, fills, is_closed_tree}
 use Rattle.packing_model.specs.Built.{packing, measured}
 use Rattle.cert_checker.specs.declared.verdict.Reason.{Reason}
 use Rattle.cert_checker.specs.declared.verdict.Reason.TheVariants as reasons
@@ -74,6 +75,7 @@ abbrev pub is_natural : SearchNode → Bool
 is_natural (Branch p) = true
 is_natural (Closing leaf) = int_le (pos 0) leaf.scale
 is_natural OpenEnd = true
+is_natural (Same leaf) = false
 
 -- over a whole tree without an open end
 tree_clean : Faultless → (k : Packing) (w : Weights) (s : Stage) (ns : List SearchNode) (line : ℕ) (f : Fixing) (fs : List Fixing)
@@ -96,6 +98,7 @@ tree_clean law k w s (Closing leaf ∷ ns) line f (g ∷ fs) h o n =
     ∙ ap (λ b. (b && closes k w s f leaf) && clean (tree_fault k w s (line + 1) (g ∷ fs) ns)) (sym parts.0)
     ∙ ap (λ b. ends_at k w s f leaf && b) (tree_clean law k w s ns (line + 1) g fs h o parts.1)
 tree_clean law k w s (OpenEnd ∷ ns) line f fs h o n = absurd (true≢false o)
+tree_clean law k w s (Same leaf ∷ ns) line f fs h o n = absurd (true≢false (sym h))
 
 -- ---- the levels
 

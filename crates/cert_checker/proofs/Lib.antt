@@ -1,11 +1,8 @@
-pub mod ClashLaws
 pub mod FaultLaws
 pub mod ValidLaws
 pub mod BestLaws
 pub mod StepLaws
-pub mod PathLaws
 pub mod ReasonLemmas
-pub mod FixingLaws
 pub mod PlaceLaws
 pub mod StandLaws
 pub mod VerdictLaws

@@ -19,7 +19,7 @@ use Rattle.duality.specs.declared.row.Term.{Term}
 use Rattle.duality.specs.declared.leaf.Leaf.{Leaf}
 use Rattle.duality.specs.declared.leaf.LeafFault.{LeafFault}
 use Rattle.duality.specs.declared.leaf.Node.{Node as SearchNode}
-use Rattle.duality.specs.declared.leaf.Node.TheVariants.{Branch, Leaf as Closing, OpenEnd}
+use Rattle.duality.specs.declared.leaf.Node.TheVariants.{Branch, Leaf as Closing, OpenEnd, Same}
 use Rattle.duality.specs.Sums.{are_small, is_small, rises, IsWithin}
 use Rattle.cert_text.specs.declared.lines.CertLine.TheVariants as lines
 use Rattle.packing_model.specs.Rising.{rises_from, is_rising}
@@ -75,6 +75,7 @@ pub node_within : (n : SearchNode) → in_bounds (lines.Node n) ≡ true → IsN
 node_within (Branch p) h = tt
 node_within (Closing leaf) h = leaf_within leaf h
 node_within OpenEnd h = tt
+node_within (Same leaf) h = absurd (true≢false (sym h))
 
 -- a leaf that does not close
 abbrev fault_in : Result (Unit {0}) LeafFault → Option LeafFault

@@ -33,8 +33,9 @@ use Rattle.packing_model.specs.Nodes.{stage_at}
 use Rattle.cert_checker.specs.declared.verdict.Reason.{Reason}
 use Rattle.cert_checker.specs.declared.verdict.Found.{Found}
 use Rattle.cert_checker.specs.declared.progress.Progress.{Progress}
-use Rattle.cert_checker.specs.Faults.{at_line, values_reason, node_reason, after_node, after, next_reason, stage_for, value_at}
-use Rattle.cert_checker.specs.Paths.{path_of, IsTurned}
+use Rattle.duality.specs.After.{after_node, after}
+use Rattle.cert_checker.specs.Faults.{at_line, values_reason, node_reason, next_reason, stage_for, value_at}
+use Rattle.search_nodes.specs.Paths.{path_of, IsTurned}
 use Rattle.cert_checker.specs.Progresses.{fault_in, reason_at, IsNextLine, KeepsOpening, KeepsPath, Keeps, Stands, stage_in, node_reason_in, reason_of, NodeAfterIn, IsAdded, Judges, Takes}
 use Rattle.cert_checker.proofs.StepLaws.{AddsTo, Adds, step_adds}
 

@@ -14,7 +14,8 @@ use Rattle.cert_text.specs.Grammar.{State, Opening, with_cut, with_levels, tree_
 use Rattle.cert_text.specs.Grammar.State.{Begun, Headed, Sized, Chosen, Valued, Cutting, Between, Inside, Loose, After, Over}
 use Rattle.packing_model.specs.Built.{packing, measured}
 use Rattle.cert_checker.specs.declared.verdict.Found.{Found}
-use Rattle.cert_checker.specs.Faults.{at_line, cut_reason, cuts_fault, node_reason, after_node, after, next_reason, tree_fault, valued_fault, opening_fault, stage_for, block_fault, levels_fault, between_fault, first_level_line}
+use Rattle.duality.specs.After.{after_node, after}
+use Rattle.cert_checker.specs.Faults.{at_line, cut_reason, cuts_fault, node_reason, next_reason, tree_fault, valued_fault, opening_fault, stage_for, block_fault, levels_fault, between_fault, first_level_line}
 use Rattle.cert_checker.specs.Progresses.{levels_size, fault_in, reason_at, IsNextLine}
 
 or_none : {A : Type 0} (x : Option A) → option_or x None ≡ x

@@ -10,7 +10,7 @@ use Rattle.problem_core.specs.Facts.{Facts, suits, share_slot}
 use Rattle.problem_core.specs.Choice.{IsLegal, entry, holds}
 use Rattle.problem_core.specs.Measures.{measures, differ_at}
 use Rattle.duality.specs.declared.leaf.Node.{Node as SearchNode}
-use Rattle.duality.specs.declared.leaf.Node.TheVariants.{Branch, Leaf as Closing, OpenEnd}
+use Rattle.duality.specs.declared.leaf.Node.TheVariants.{Branch, Leaf as Closing, OpenEnd, Same}
 use Rattle.duality.specs.Packing.{Packing}
 use Rattle.duality.specs.Tree.{proves_level}
 use Rattle.cert_text.specs.declared.lines.Tree.{Tree}
@@ -199,6 +199,7 @@ cuts_from k (ps ∷ cuts) h = and_from (is_clique k ps) (list_all (is_clique k) 
 node_natural : (n : SearchNode) → in_bounds (Node n) ≡ true → is_natural n ≡ true
 node_natural (Branch p) h = refl
 node_natural OpenEnd h = refl
+node_natural (Same leaf) h = absurd (true≢false (sym h))
 node_natural (Closing leaf) h = go leaf.scale (and_parts (scale_in_bounds leaf.scale) (nat_le (length leaf.terms) 5005 && (list_all term_in_bounds leaf.terms && rises leaf.terms)) h).0
   where
     go : (z : ℤ) → scale_in_bounds z ≡ true → int_le (pos 0) z ≡ true

@@ -10,7 +10,7 @@ use Rattle.problem_core.specs.Facts.{Facts}
 use Rattle.problem_core.specs.Measures.{measures, differ_at, IsBest}
 use Rattle.meeting_patterns.specs.Pattern.{patterns_of}
 use Rattle.duality.specs.declared.leaf.Node.{Node as SearchNode}
-use Rattle.duality.specs.declared.leaf.Node.TheVariants.{Branch, Leaf as Closing, OpenEnd}
+use Rattle.duality.specs.declared.leaf.Node.TheVariants.{Branch, Leaf as Closing, OpenEnd, Same}
 use Rattle.duality.specs.declared.leaf.LeafFault.{LeafFault}
 use Rattle.duality.specs.declared.leaf.LeafFault.TheVariants as faults
 use Rattle.duality.specs.Packing.{Packing, Weights, Stage, Fixing, is_free}
@@ -26,7 +26,8 @@ use Rattle.cert_text.specs.Text.{IsText, IsFaultyLine, certificate_of}
 use Rattle.cert_checker.specs.declared.verdict.Reason.{Reason}
 use Rattle.cert_checker.specs.declared.verdict.Reason.TheVariants as reasons
 use Rattle.cert_checker.specs.declared.verdict.Found.{Found}
-use Rattle.cert_checker.specs.Faults.{at_line, sizes_reason, is_legal, choice_reason, values_reason, unknown_reason, apart_reason, cut_reason, cuts_fault, leaf_reason, node_reason, after_node, tree_fault, sized_fault, chosen_fault, valued_fault, opening_fault, stage_for, block_fault, levels_fault, first_level_line, fault_of}
+use Rattle.duality.specs.After.{after_node}
+use Rattle.cert_checker.specs.Faults.{at_line, sizes_reason, is_legal, choice_reason, values_reason, unknown_reason, apart_reason, cut_reason, cuts_fault, leaf_reason, node_reason, tree_fault, sized_fault, chosen_fault, valued_fault, opening_fault, stage_for, block_fault, levels_fault, first_level_line, fault_of}
 use Rattle.cert_checker.specs.Verdicts.{IsValid, judged, verdict_of, Means}
 
 -- ---- a fault of the lines is none of the text
@@ -86,6 +87,7 @@ plain_node : (k : Packing) (w : Weights) (s : Stage) (f : Fixing) (n : SearchNod
 plain_node k w s f (Branch p) = plain_if (nat_lt p k.count) (if is_free k f p then None else Some (reasons.NotFree p)) (Some (reasons.Pattern p)) (plain_if (is_free k f p) None (Some (reasons.NotFree p)) refl refl) refl
 plain_node k w s f (Closing leaf) = plain_leaf (leaf_fault k w s f leaf)
 plain_node k w s f OpenEnd = refl
+plain_node k w s f (Same leaf) = refl
 
 plain_tree : (k : Packing) (w : Weights) (s : Stage) (line : ℕ) (fs : List Fixing) (ns : List SearchNode) → plain_found (tree_fault k w s line fs ns) ≡ true
 plain_tree k w s line fs [] = refl

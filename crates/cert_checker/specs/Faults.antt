@@ -7,12 +7,13 @@ use Rattle.problem_core.specs.Choice.{entry, holds}
 use Rattle.problem_core.specs.Measures.{measures, differ_at}
 use Rattle.meeting_patterns.specs.Pattern.{patterns_of}
 use Rattle.duality.specs.declared.leaf.Node.{Node as SearchNode}
-use Rattle.duality.specs.declared.leaf.Node.TheVariants.{Branch, Leaf as Closing, OpenEnd}
+use Rattle.duality.specs.declared.leaf.Node.TheVariants.{Branch, Leaf as Closing, OpenEnd, Same}
 use Rattle.duality.specs.declared.leaf.LeafFault.{LeafFault}
 use Rattle.duality.specs.declared.leaf.LeafFault.TheVariants as faults
 use Rattle.duality.specs.Packing.{Packing, Weights, Stage, Fixing, is_free}
 use Rattle.duality.specs.Leaf.{leaf_fault}
-use Rattle.duality.specs.Tree.{with_zero, with_one, nothing_fixed}
+use Rattle.duality.specs.Tree.{nothing_fixed}
+use Rattle.duality.specs.After.{after_node}
 use Rattle.packing_model.specs.Built.{rows_of, packing, measured}
 use Rattle.packing_model.specs.Cuts.{first_apart}
 use Rattle.packing_model.specs.Nodes.{stage_at}
@@ -75,22 +76,12 @@ leaf_reason (Some (faults.Sign at)) = Some reasons.Sign
 leaf_reason (Some (faults.Cost p)) = Some (reasons.Cost p)
 leaf_reason (Some faults.Bound) = Some reasons.Bound
 
--- a finished tree has no open end
+-- a finished tree has no open end, and no text of this version names an earlier leaf
 abbrev pub node_reason : Packing → Weights → Stage → Fixing → SearchNode → Option Reason
 node_reason k w s f (Branch p) = branch_reason k f p
 node_reason k w s f (Closing leaf) = leaf_reason (leaf_fault k w s f leaf)
 node_reason k w s f OpenEnd = None
-
--- what is to be proved after a node
-abbrev pub after_node : Fixing → List Fixing → SearchNode → List Fixing
-after_node f fs (Branch p) = with_zero p f ∷ (with_one p f ∷ fs)
-after_node f fs (Closing leaf) = fs
-after_node f fs OpenEnd = fs
-
-abbrev pub after : List Fixing → List SearchNode → List Fixing
-after fs [] = fs
-after [] (n ∷ ns) = []
-after (f ∷ fs) (n ∷ ns) = after (after_node f fs n) ns
+node_reason k w s f (Same leaf) = None
 
 -- the reason at the next node; a whole tree has no node behind its end
 abbrev pub next_reason : Packing → Weights → Stage → List Fixing → SearchNode → Option Reason

@@ -19,9 +19,10 @@ use Rattle.cert_text.specs.Places.{place_of, count_of, wanted_of}
 use Rattle.cert_text.specs.Text.{read_from, certificate_of}
 use Rattle.packing_model.specs.Built.{packing, measured}
 use Rattle.packing_model.specs.Cuts.{IsPoolOf}
-use Rattle.cert_checker.specs.Faults.{at_line, sizes_reason, choice_reason, values_reason, cut_reason, after, node_reason, next_reason, sized_fault, chosen_fault, valued_fault, opening_fault, between_fault, block_fault, first_level_line, stage_for, value_at, fault_of}
+use Rattle.duality.specs.After.{after}
+use Rattle.cert_checker.specs.Faults.{at_line, sizes_reason, choice_reason, values_reason, cut_reason, node_reason, next_reason, sized_fault, chosen_fault, valued_fault, opening_fault, between_fault, block_fault, first_level_line, stage_for, value_at, fault_of}
 use Rattle.packing_model.specs.Nodes.{stage_at}
-use Rattle.cert_checker.specs.Paths.{path_of, IsWalk}
+use Rattle.search_nodes.specs.Paths.{path_of, IsWalk}
 use Rattle.cert_checker.specs.Trees.{NodeAfter}
 use Rattle.cert_checker.specs.declared.verdict.Reason.{Reason}
 use Rattle.cert_checker.specs.declared.verdict.Found.{Found}

@@ -7,10 +7,9 @@ mod laws;
 mod progress;
 mod tree;
 mod verdict;
-mod walk;
 
 pub use judge::check;
 pub use laws::certificate_laws;
+pub use search_nodes::Walk;
 pub use tree::TreeAt;
 pub use verdict::{Reason, Verdict};
-pub use walk::{Side, Walk};

@@ -9,16 +9,16 @@ ghost use Rattle.packing_model.specs.Built.{packing, measured};
 ghost use Rattle.cert_checker.specs.Faults.{sizes_reason, values_reason, node_reason, unknown_reason};
 ghost use Rattle.cert_text.specs.Text.{takes, read_end};
 ghost use Rattle.cert_checker.specs.Verdicts.{judged, verdict_of};
-ghost use Rattle.cert_checker.specs.Paths.{path_of};
+ghost use Rattle.search_nodes.specs.Paths.{path_of};
 ghost use Rattle.cert_checker.specs.Trees.{NodeAfter};
 ghost use Rattle.cert_checker.specs.Progresses.{Stands, IsProgress, reason_of, stage_in, RoomFor, IsJudged, IsWalked, Takes, Judges};
 
 use crate::tree::TreeAt;
 use crate::verdict::{Found, Reason, Verdict};
-use crate::walk::Walk;
 use cert_text::{CertLine, Node, Place, line_laws, read_line, step};
 use packing_model::{Cut, CutFault, Measured, Model, Pool};
 use problem_core::{Choice, Memory};
+use search_nodes::Walk;
 use std::alloc::Global;
 use values::Items;
 

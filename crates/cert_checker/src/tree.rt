@@ -8,15 +8,15 @@ ghost use Rattle.packing_model.specs.Closing.{counted};
 ghost use Rattle.packing_model.specs.Cuts.{IsPoolOf};
 ghost use Rattle.packing_model.specs.Nodes.{AreTargets, ok_unless, stage_at};
 ghost use Rattle.cert_checker.specs.Faults.{node_reason, branch_reason, leaf_reason};
-ghost use Rattle.cert_checker.specs.Paths.{path_of, IsWalk, IsTurned};
+ghost use Rattle.search_nodes.specs.Paths.{path_of, IsWalk, IsTurned};
 ghost use Rattle.cert_checker.specs.Trees.{IsLeafWithin, IsNodeWithin, NodeAfter};
 
 use crate::verdict::Reason;
-use crate::walk::Walk;
 use cert_text::Node;
 use duality::Objective;
 use packing_model::{Leaf, LeafFault, Model, ObjectiveAt, Pool, close_leaf, is_free};
 use problem_core::Memory;
+use search_nodes::Walk;
 
 /// A level of an objective over a model's patterns whose tree is judged: the cuts that its leaves may use,
 /// the values of the levels below it, and the value that no choice with those values is to exceed. Where
@@ -36,7 +36,8 @@ impl<O: Objective> TreeAt<'_, O> {
     /// of the model that is free there, a leaf is to close there. Where the node is at fault this gives the
     /// reason. Otherwise the walk goes on to the node behind it: from a branch to the part in which its
     /// pattern is left out, from a leaf to the part of the last branch on its first side in which its
-    /// pattern is taken. An open end has no fault, and the walk stays. The objective is to count the model's
+    /// pattern is taken. An open end has no fault, and the walk stays; a node that names an earlier leaf is
+    /// not to come. The objective is to count the model's
     /// patterns, the cuts are to be of the model, and the walk one through trees of the model, which it
     /// stays. It fails only where memory runs out; then nothing is known of the walk.
     pub fn judge_node(&self, walk: &mut Walk, node: &Node) -> Result<Option<Reason>, Memory>
@@ -54,7 +55,7 @@ impl<O: Objective> TreeAt<'_, O> {
         match node {
             Node::Branch(pattern) => branch_reason(self.model, walk, *pattern),
             Node::Leaf(leaf) => self.leaf_reason(walk, leaf),
-            Node::OpenEnd => Ok(None),
+            Node::OpenEnd | Node::Same(_) => Ok(None),
         }
     }
 

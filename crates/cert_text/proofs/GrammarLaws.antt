@@ -7,13 +7,14 @@ use Rattle.std.proofs.lemmas.Option.{same_Some, none-some}
 use Rattle.std.proofs.lemmas.List.Folds.{list_all-append, list_any-append}
 use Rattle.duality.specs.declared.leaf.Leaf.{Leaf}
 use Rattle.duality.specs.declared.leaf.Node.{Node as SearchNode}
-use Rattle.duality.specs.declared.leaf.Node.TheVariants.{Branch, Leaf as Closing, OpenEnd}
+use Rattle.duality.specs.declared.leaf.Node.TheVariants.{Branch, Leaf as Closing, OpenEnd, Same}
 use Rattle.cert_text.specs.declared.lines.Tree.{Tree}
 use Rattle.cert_text.specs.declared.lines.Certificate.{Certificate}
 use Rattle.cert_text.specs.declared.lines.CertLine.{CertLine}
 use Rattle.cert_text.specs.declared.lines.CertLine.TheVariants.{Head, Sizes, Choice, Values, Cuts, Cut, Level, Unfinished, Node, End}
 use Rattle.cert_text.specs.Spelling.{in_bounds}
-use Rattle.cert_text.specs.Grammar.{Opening, opening_of, with_levels, State, blocks, open_block, front, lines_of, tree_of, with_cut, awaits, may_begin, step, and_then, runs, is_open, fills, is_closed_tree, is_open_tree, fits_count, is_shaped}
+use Rattle.duality.specs.After.{is_open}
+use Rattle.cert_text.specs.Grammar.{Opening, opening_of, with_levels, State, blocks, open_block, front, lines_of, tree_of, with_cut, awaits, may_begin, step, and_then, runs, fills, is_closed_tree, is_open_tree, fits_count, is_shaped}
 use Rattle.cert_text.specs.Grammar.State.{Begun, Headed, Sized, Chosen, Valued, Cutting, Between, Inside, Loose, After, Over}
 
 -- ---- what was read so far, written
@@ -132,6 +133,7 @@ runs_inside (Closing leaf ∷ (n ∷ ns)) o ls before zero rest f e = absurd (tr
 runs_inside (Closing leaf ∷ ns) o ls before (suc k) rest f e =
     runs_inside ns o ls (before ++ (Closing leaf ∷ [])) k rest f e ∙ ap (λ t. runs (Between o (ls ++ (tree_of t ∷ []))) rest) (append_assoc before (Closing leaf ∷ []) ns)
 runs_inside (OpenEnd ∷ ns) o ls before k rest f e = absurd (true≢false e)
+runs_inside (Same leaf ∷ ns) o ls before k rest f e = absurd (true≢false (sym f))
 
 runs_loose : (ns : List SearchNode) (o : Opening) (ls : List Tree) (before : List SearchNode) (k : ℕ) (seen : Bool) (rest : List CertLine) → fills k ns ≡ true → (seen || list_any is_open ns) ≡ true
     → runs (Loose o ls before k seen) (map Node ns ++ rest) ≡ runs (After o ls (before ++ ns)) rest
@@ -147,6 +149,7 @@ runs_loose (OpenEnd ∷ []) o ls before zero seen rest f e = refl
 runs_loose (OpenEnd ∷ (n ∷ ns)) o ls before zero seen rest f e = absurd (true≢false (sym f))
 runs_loose (OpenEnd ∷ ns) o ls before (suc k) seen rest f e =
     runs_loose ns o ls (before ++ (OpenEnd ∷ [])) k true rest f refl ∙ ap (λ t. runs (After o ls t) rest) (append_assoc before (OpenEnd ∷ []) ns)
+runs_loose (Same leaf ∷ ns) o ls before k seen rest f e = absurd (true≢false (sym f))
 
 may : (ls : List Tree) → length ls < 6 → may_begin (length ls + 1) ls ≡ true
 may ls l = and_from (length ls + 1 == length ls + 1) (nat_lt (length ls) 6) (eq-eqb (length ls + 1) (length ls + 1) refl) (lt-ltb (length ls) 6 l)

@@ -6,3 +6,4 @@ pub mod ReadLaws
 pub mod TakeLaws
 pub mod WriteLaws
 pub mod CountLaws
+pub mod TreeLaws

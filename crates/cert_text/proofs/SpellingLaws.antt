@@ -10,7 +10,7 @@ use Rattle.duality.specs.declared.row.RowName.{RowName}
 use Rattle.duality.specs.declared.row.RowName.TheVariants.{Base, Cut as CutRow, Level as LevelRow}
 use Rattle.duality.specs.declared.row.Term.{Term}
 use Rattle.duality.specs.declared.leaf.Leaf.{Leaf}
-use Rattle.duality.specs.declared.leaf.Node.TheVariants.{Branch, Leaf as Closing, OpenEnd}
+use Rattle.duality.specs.declared.leaf.Node.TheVariants.{Branch, Leaf as Closing, OpenEnd, Same}
 use Rattle.duality.specs.Sums.{rises, is_small}
 use Rattle.cert_text.specs.declared.lines.CertLine.{CertLine}
 use Rattle.cert_text.specs.declared.lines.CertLine.TheVariants.{Head, Sizes, Choice, Values, Cuts, Cut, Level, Unfinished, Node, End}
@@ -169,6 +169,7 @@ line_reads (Unfinished j) h = ap (option_map Unfinished) (only_reads 6 j (omega 
 line_reads (Node (Branch p)) h = ap (option_map (λ q. Node (Branch q))) (only_reads 199999 p (omega arith) h)
 line_reads (Node (Closing leaf)) h = ap (option_map (λ x. Node (Closing x))) (leaf_read leaf.scale leaf.terms h)
 line_reads (Node OpenEnd) h = refl
+line_reads (Node (Same leaf)) h = absurd (true≢false (sym h))
 line_reads (End n) h = ap (option_map End) (only_reads 6 n (omega arith) h)
 
 abbrev Spelt : List (List ℕ) → Option CertLine → Type 0
@@ -325,6 +326,7 @@ is_line (Node (Closing leaf)) h = record { word = codes "leaf"; rest = leaf_fiel
         and_from (plain (decimal n)) (plain (decimal (length ts)) && list_all plain (term_fields ts)) (decimal_plain n (leb-true n (10 ^ 24) parts.0))
         (and_from (plain (decimal (length ts))) (list_all plain (term_fields ts)) (small_plain (length ts) (le_small 5005 (omega arith) (length ts) count.0)) (terms_plain ts each.0))
 is_line (Node OpenEnd) h = record { word = codes "open"; rest = []; fields = refl; first = refl; others = refl }
+is_line (Node (Same leaf)) h = absurd (true≢false (sym h))
 is_line (End n) h = record { word = codes "end"; rest = map decimal (n ∷ []); fields = refl; first = refl; others = numbers_plain (n ∷ []) (one_small 6 n (omega arith) h) }
 
 -- and what is written is read

@@ -2,7 +2,8 @@
 use Rattle.std.specs.Prelude.{ℕ, ℤ, ◌+◌, zero, suc, Bool, true, false, ◌&&◌, not, ◌==◌, nat_lt, if◌then◌else◌, Option, Some, None, List, [], ◌∷◌, ◌++◌, length, map}
 use Rattle.std.specs.List.{list_all, list_any}
 use Rattle.duality.specs.declared.leaf.Node.{Node as SearchNode}
-use Rattle.duality.specs.declared.leaf.Node.TheVariants.{Branch, Leaf as Closing, OpenEnd}
+use Rattle.duality.specs.declared.leaf.Node.TheVariants.{Branch, Leaf as Closing, OpenEnd, Same}
+use Rattle.duality.specs.After.{is_open}
 use Rattle.cert_text.specs.declared.lines.Tree.{Tree}
 use Rattle.cert_text.specs.declared.lines.Certificate.{Certificate}
 use Rattle.cert_text.specs.declared.lines.CertLine.{CertLine}
@@ -75,6 +76,7 @@ in_level o ls ns k (Branch p) = Some (Inside o ls (ns ++ (Branch p ∷ [])) (suc
 in_level o ls ns zero (Closing leaf) = Some (Between o (ls ++ (tree_of (ns ++ (Closing leaf ∷ [])) ∷ [])))
 in_level o ls ns (suc k) (Closing leaf) = Some (Inside o ls (ns ++ (Closing leaf ∷ [])) k)
 in_level o ls ns k OpenEnd = None
+in_level o ls ns k (Same leaf) = None
 
 -- the last part must be open where none was open before
 abbrev pub in_loose : Opening → List Tree → List SearchNode → ℕ → Bool → SearchNode → Option State
@@ -83,6 +85,7 @@ in_loose o ls ns zero seen (Closing leaf) = if seen then Some (After o ls (ns ++
 in_loose o ls ns (suc k) seen (Closing leaf) = Some (Loose o ls (ns ++ (Closing leaf ∷ [])) k seen)
 in_loose o ls ns zero seen OpenEnd = Some (After o ls (ns ++ (OpenEnd ∷ [])))
 in_loose o ls ns (suc k) seen OpenEnd = Some (Loose o ls (ns ++ (OpenEnd ∷ [])) k true)
+in_loose o ls ns k seen (Same leaf) = None
 
 abbrev pub step : State → CertLine → Option State
 step Begun Head = Some Headed
@@ -110,12 +113,7 @@ runs s (l ∷ ls) = and_then (step s l) (λ next. runs next ls)
 
 -- ---- what a certificate must be
 
-abbrev pub is_open : SearchNode → Bool
-is_open (Branch p) = false
-is_open (Closing leaf) = false
-is_open OpenEnd = true
-
--- the nodes fill the part that is wanted and k more, and nothing stands behind
+-- the nodes fill the part that is wanted and k more, none names an earlier leaf, and nothing stands behind
 abbrev pub fills : ℕ → List SearchNode → Bool
 fills k [] = false
 fills k (Branch p ∷ ns) = fills (suc k) ns
@@ -125,6 +123,7 @@ fills (suc k) (Closing leaf ∷ ns) = fills k ns
 fills zero (OpenEnd ∷ []) = true
 fills zero (OpenEnd ∷ (n ∷ ns)) = false
 fills (suc k) (OpenEnd ∷ ns) = fills k ns
+fills k (Same leaf ∷ ns) = false
 
 -- one whole tree without an open end
 abbrev pub is_closed_tree : Tree → Bool

@@ -1,7 +1,7 @@
 -- Which line may follow, by counts alone.
 use Rattle.std.specs.Prelude.{ℕ, ◌+◌, ◌-◌, ◌==◌, ◌&&◌, Bool, true, false, nat_lt, if◌then◌else◌, Option, Some, None, length}
 use Rattle.duality.specs.declared.leaf.Node.{Node as SearchNode}
-use Rattle.duality.specs.declared.leaf.Node.TheVariants.{Branch, Leaf as Closing, OpenEnd}
+use Rattle.duality.specs.declared.leaf.Node.TheVariants.{Branch, Leaf as Closing, OpenEnd, Same}
 use Rattle.cert_text.specs.declared.lines.CertLine.{CertLine}
 use Rattle.cert_text.specs.declared.lines.CertLine.TheVariants as lines
 use Rattle.cert_text.specs.declared.place.Place.{Place}
@@ -19,6 +19,7 @@ abbrev pub in_level : ℕ → ℕ → SearchNode → Option Place
 in_level levels wanted (Branch p) = Some (Inside levels (wanted + 1))
 in_level levels wanted (Closing leaf) = if wanted == 0 then Some (Between (levels + 1)) else Some (Inside levels (wanted - 1))
 in_level levels wanted OpenEnd = None
+in_level levels wanted (Same leaf) = None
 
 abbrev pub close : ℕ → ℕ → Bool → Bool → Option Place
 close levels wanted seen may_end = if nat_lt 0 wanted then Some (Loose levels (wanted - 1) seen) else (if may_end then Some (After levels) else None)
@@ -27,6 +28,7 @@ abbrev pub in_loose : ℕ → ℕ → Bool → SearchNode → Option Place
 in_loose levels wanted seen (Branch p) = Some (Loose levels (wanted + 1) seen)
 in_loose levels wanted seen (Closing leaf) = close levels wanted seen seen
 in_loose levels wanted seen OpenEnd = close levels wanted true true
+in_loose levels wanted seen (Same leaf) = None
 
 -- the place after a line, where the line may come
 abbrev pub follows : Place → CertLine → Option Place

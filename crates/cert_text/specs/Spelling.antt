@@ -7,7 +7,7 @@ use Rattle.duality.specs.declared.row.RowName.{RowName}
 use Rattle.duality.specs.declared.row.RowName.TheVariants.{Base, Cut as CutRow, Level as LevelRow}
 use Rattle.duality.specs.declared.row.Term.{Term}
 use Rattle.duality.specs.declared.leaf.Leaf.{Leaf}
-use Rattle.duality.specs.declared.leaf.Node.TheVariants.{Branch, Leaf as Closing, OpenEnd}
+use Rattle.duality.specs.declared.leaf.Node.TheVariants.{Branch, Leaf as Closing, OpenEnd, Same}
 use Rattle.duality.specs.Sums.{rises, is_small}
 use Rattle.cert_text.specs.declared.lines.CertLine.{CertLine}
 use Rattle.cert_text.specs.declared.lines.CertLine.TheVariants.{Head, Sizes, Choice, Values, Cuts, Cut, Level, Unfinished, Node, End}
@@ -43,6 +43,7 @@ fields_of (Unfinished j) = codes "unfinished" ∷ map decimal (j ∷ [])
 fields_of (Node (Branch p)) = codes "branch" ∷ map decimal (p ∷ [])
 fields_of (Node (Closing leaf)) = codes "leaf" ∷ leaf_fields leaf
 fields_of (Node OpenEnd) = codes "open" ∷ []
+fields_of (Node (Same leaf)) = codes "same" ∷ map decimal (leaf ∷ [])
 fields_of (End n) = codes "end" ∷ map decimal (n ∷ [])
 
 -- one blank between two fields
@@ -79,6 +80,7 @@ scale_in_bounds (negsuc n) = false
 abbrev pub leaf_in_bounds : Leaf → Bool
 leaf_in_bounds leaf = scale_in_bounds leaf.scale && (nat_le (length leaf.terms) 5005 && (list_all term_in_bounds leaf.terms && rises leaf.terms))
 
+-- in this version of the text no line names an earlier leaf
 abbrev pub in_bounds : CertLine → Bool
 in_bounds Head = true
 in_bounds (Sizes patterns rows) = nat_le patterns 200000 && nat_le rows 4000
@@ -91,6 +93,7 @@ in_bounds (Unfinished j) = nat_le j 6
 in_bounds (Node (Branch p)) = nat_le p 199999
 in_bounds (Node (Closing leaf)) = leaf_in_bounds leaf
 in_bounds (Node OpenEnd) = true
+in_bounds (Node (Same leaf)) = false
 in_bounds (End n) = nat_le n 6
 
 -- ---- the reader

@@ -70,6 +70,7 @@ fn node_in_bounds(node: &Node) -> bool
         Node::Branch(pattern) => *pattern <= 199_999,
         Node::Leaf(leaf) => leaf_in_bounds(leaf),
         Node::OpenEnd => true,
+        Node::Same(_) => false,
     }
 }
 

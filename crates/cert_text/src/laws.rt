@@ -1,8 +1,11 @@
-ghost use Rattle.std.specs.Prelude.{◌≡◌, ℕ, List, Some, Ok, Err, true, option_map};
+ghost use Rattle.std.specs.Prelude.{◌≡◌, ◌∷◌, [], ℕ, List, Some, Ok, Err, true, option_map};
+ghost use Rattle.duality.specs.declared.leaf.Node.{Node};
+ghost use Rattle.duality.specs.Packing.{Packing, Weights, Stage, Fixing};
+ghost use Rattle.duality.specs.After.{after, are_right};
 ghost use Rattle.cert_text.specs.declared.lines.Certificate.{Certificate};
 ghost use Rattle.cert_text.specs.declared.lines.CertLine.{CertLine};
 ghost use Rattle.cert_text.specs.Spelling.{line_of, line_text, in_bounds};
-ghost use Rattle.cert_text.specs.Grammar.{State, step};
+ghost use Rattle.cert_text.specs.Grammar.{State, step, fills};
 ghost use Rattle.cert_text.specs.Places.{follows, place_of};
 ghost use Rattle.cert_text.specs.Text.{IsText, IsFaultyLine, certificate_of};
 
@@ -25,4 +28,9 @@ pub fn text_laws()
 /// The step of the text is that of its counts, so a reader that keeps counts alone stops at the same lines.
 pub fn place_laws()
     ensures { (s : State) (l : CertLine) → option_map place_of (step s l) ≡ follows (place_of s) l }
+{}
+
+/// Nodes that are right one after the other and leave nothing to be proved are one whole tree.
+pub fn tree_laws()
+    ensures { (k : Packing) (w : Weights) (s : Stage) (f : Fixing) (ns : List Node) → are_right k w s (f ∷ []) ns ≡ true → after (f ∷ []) ns ≡ [] → fills 0 ns ≡ true }
 {}

@@ -14,7 +14,7 @@ mod writer;
 
 pub use duality::Node;
 pub use input_core::Memory;
-pub use laws::{line_laws, place_laws, text_laws};
+pub use laws::{line_laws, place_laws, text_laws, tree_laws};
 pub use line::read_line;
 pub use lines::{CertLine, Certificate, Tree};
 pub use place::{Place, step};

@@ -131,7 +131,7 @@ fn in_level(levels: u32, wanted: u64, node: &Node) -> Option<Place>
                 })
             }
         }
-        Node::OpenEnd => None,
+        Node::OpenEnd | Node::Same(_) => None,
     }
 }
 
@@ -147,6 +147,7 @@ fn in_loose(levels: u32, wanted: u64, seen: bool, node: &Node) -> Option<Place>
         }),
         Node::Leaf(_) => close(levels, wanted, seen, seen),
         Node::OpenEnd => close(levels, wanted, true, true),
+        Node::Same(_) => None,
     }
 }
 

@@ -177,6 +177,7 @@ fn write_node(bytes: &mut Vec<u8>, node: &Node) -> Result<(), AllocError>
         Node::Branch(pattern) => write_single(bytes, b"branch", *pattern as usize),
         Node::Leaf(leaf) => write_leaf(bytes, leaf),
         Node::OpenEnd => bytes.extend_from_slice(b"open\n"),
+        Node::Same(leaf) => write_single(bytes, b"same", *leaf as usize),
     }
 }
 

@@ -5,3 +5,6 @@ pub mod ChoiceLaws
 pub mod WalkLaws
 pub mod PricedLaws
 pub mod RunLaws
+pub mod StageLaws
+pub mod AfterLaws
+pub mod UnitLaws

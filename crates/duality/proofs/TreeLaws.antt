@@ -6,7 +6,7 @@ use Rattle.std.proofs.lemmas.Bool.{and_parts, and_from, or_from, or_parts, not-t
 use Rattle.std.proofs.lemmas.List.Folds.{list_all-append, list_any-append}
 use Rattle.numbers.specs.Sums.{value, member, distinct}
 use Rattle.duality.specs.declared.leaf.Node.{Node}
-use Rattle.duality.specs.declared.leaf.Node.TheVariants.{Branch, Leaf as Closing, OpenEnd}
+use Rattle.duality.specs.declared.leaf.Node.TheVariants.{Branch, Leaf as Closing, OpenEnd, Same}
 use Rattle.duality.specs.Packing.{Packing, Weights, Stage, Fixing, is_free, AreCliques, IsPacking, Meets, Follows, IsFixing}
 use Rattle.duality.specs.Leaf.{closes, IsCapped}
 use Rattle.duality.specs.Tree.{ProofTree, with_zero, with_one, can_branch, ends_at, proves, proves_all, preorder, nothing_fixed, proves_level}
@@ -86,6 +86,7 @@ nodes_cap k w s has cliques packs meets (Closing leaf ∷ ns) (f ∷ fs) fixes p
       | inr later ↦ nodes_cap k w s has cliques packs meets ns fs fixes.1 parts.1 later
     ]
 nodes_cap k w s has cliques packs meets (OpenEnd ∷ ns) (f ∷ fs) fixes proved some = absurd (true≢false (sym proved))
+nodes_cap k w s has cliques packs meets (Same leaf ∷ ns) (f ∷ fs) fixes proved some = absurd (true≢false (sym proved))
 
 pub tree_caps : (k : Packing) (w : Weights) (s : Stage) (nodes : List Node) (has : ℕ → Bool)
     → AreCliques k s.cuts → proves_level k w s nodes ≡ true → IsPacking k has → Meets k w s has → IsCapped s.best (value has (w.weight s.level) k.count)

@@ -4,3 +4,6 @@ pub mod Tree
 pub mod Walk
 pub mod Runs
 pub mod Sums
+pub mod After
+pub mod Stages
+pub mod Units

@@ -2,7 +2,7 @@
 use Rattle.std.specs.Prelude.{ℕ, pos, ◌&&◌, nat_lt, int_le, Bool, true, false, List, [], ◌∷◌, ◌++◌}
 use Rattle.duality.specs.declared.leaf.Leaf.{Leaf}
 use Rattle.duality.specs.declared.leaf.Node.{Node}
-use Rattle.duality.specs.declared.leaf.Node.TheVariants.{Branch, Leaf as Closing, OpenEnd}
+use Rattle.duality.specs.declared.leaf.Node.TheVariants.{Branch, Leaf as Closing, OpenEnd, Same}
 use Rattle.duality.specs.Packing.{Packing, Weights, Stage, Fixing, is_free}
 use Rattle.duality.specs.Leaf.{closes}
 
@@ -41,6 +41,7 @@ proves_all k w s [] (n ∷ ns) = false
 proves_all k w s (f ∷ fs) (Branch p ∷ ns) = can_branch k f p && proves_all k w s (with_zero p f ∷ (with_one p f ∷ fs)) ns
 proves_all k w s (f ∷ fs) (Closing leaf ∷ ns) = ends_at k w s f leaf && proves_all k w s fs ns
 proves_all k w s (f ∷ fs) (OpenEnd ∷ ns) = false
+proves_all k w s (f ∷ fs) (Same leaf ∷ ns) = false
 
 abbrev pub preorder : ProofTree → List Node
 preorder (Fork p low high) = Branch p ∷ (preorder low ++ preorder high)

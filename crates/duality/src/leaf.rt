@@ -21,10 +21,12 @@ pub enum LeafFault {
 }
 
 /// A node of a search tree in preorder: a branch stands before the part in which its pattern is left
-/// out, and that before the part in which it is taken.
+/// out, and that before the part in which it is taken. `Same` names an earlier leaf by its number; it ends
+/// its part as a leaf does, and by itself it proves nothing.
 #[derive(Drop)]
 pub enum Node {
     Branch(u32),
     Leaf(Leaf),
     OpenEnd,
+    Same(u64),
 }

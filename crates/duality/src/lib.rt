@@ -3,6 +3,7 @@
 #![tactic(auto)]
 
 mod costs;
+mod growth;
 mod laws;
 mod leaf;
 mod objective;
@@ -10,6 +11,7 @@ mod row;
 mod sums;
 
 pub use costs::{is_under, left_side, reduced_cost};
+pub use growth::growth_laws;
 pub use laws::{choice_laws, leaf_laws, sum_laws, tree_laws, walk_laws};
 pub use leaf::{Leaf, LeafFault, Node};
 pub use objective::{Objective, Weighed};

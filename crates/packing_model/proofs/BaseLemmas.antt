@@ -54,18 +54,18 @@ having_is : (p : Facts) → IsProblem p → (s : List Pattern) → ((i : ℕ) �
 having_is p is s each k l =
     ap length (passing-same (λ i. member k (keys_of p (pattern_at s i))) (λ i. stands_in p (row_of p k) (pattern_at s i)) (length s) (λ i m. keys-row p is (pattern_at s i) (each i m) k l))
 
-makes-event : (p : Facts) → IsProblem p → (s : List Pattern) → ((i : ℕ) → i < length s → IsPattern p (pattern_at s i)) → (e : ℕ) → e < length p.events → makes_row p s e ≡ has_some p s (Event e)
+pub makes-event : (p : Facts) → IsProblem p → (s : List Pattern) → ((i : ℕ) → i < length s → IsPattern p (pattern_at s i)) → (e : ℕ) → e < length p.events → makes_row p s e ≡ has_some p s (Event e)
 makes-event p is s each e l =
     ap₂ nat_le (cond-true (nat_lt e (slot_end p)) 1 2 (lt-ltb e (slot_end p) (omega (arith, l))))
     (having_is p is s each e (omega (arith, l)) ∙ ap (λ row. length (standing p s row)) (row_of-event p e l))
 
-makes-slot : (p : Facts) → IsProblem p → (s : List Pattern) → ((i : ℕ) → i < length s → IsPattern p (pattern_at s i)) → (r t : ℕ) → r < length p.capacity → t < p.slots → makes_row p s (slot_key p r t) ≡ has_some p s (RoomSlot r t)
+pub makes-slot : (p : Facts) → IsProblem p → (s : List Pattern) → ((i : ℕ) → i < length s → IsPattern p (pattern_at s i)) → (r t : ℕ) → r < length p.capacity → t < p.slots → makes_row p s (slot_key p r t) ≡ has_some p s (RoomSlot r t)
 makes-slot p is s each r t l m =
     let low = slot_below p r t l m in
     ap₂ nat_le (cond-true (nat_lt (slot_key p r t) (slot_end p)) 1 2 (lt-ltb (slot_key p r t) (slot_end p) low))
     (having_is p is s each (slot_key p r t) (omega (arith, low)) ∙ ap (λ row. length (standing p s row)) (row_of-slot p r t l m))
 
-makes-course : (p : Facts) → IsProblem p → (s : List Pattern) → ((i : ℕ) → i < length s → IsPattern p (pattern_at s i)) → (c r : ℕ) → c < length p.students → r < length p.capacity → makes_row p s (course_key p c r) ≡ has_two p s (CourseRoom c r)
+pub makes-course : (p : Facts) → IsProblem p → (s : List Pattern) → ((i : ℕ) → i < length s → IsPattern p (pattern_at s i)) → (c r : ℕ) → c < length p.students → r < length p.capacity → makes_row p s (course_key p c r) ≡ has_two p s (CourseRoom c r)
 makes-course p is s each c r l m =
     ap₂ nat_le (cond-false (nat_lt (course_key p c r) (slot_end p)) 1 2 (le-ltb (course_key p c r) (slot_end p) (omega arith)))
     (having_is p is s each (course_key p c r) (course_below p c r l m) ∙ ap (λ row. length (standing p s row)) (row_of-course p c r l m))

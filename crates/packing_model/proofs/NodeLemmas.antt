@@ -3,7 +3,7 @@ use Rattle.std.proofs.Common.{ℕ, ◌≡◌, ◌+◌, ◌-◌, ◌^◌, ◌<◌
 use Rattle.std.specs.Prelude.{ℤ, pos, negsuc, ◌≤ℤ◌, ◌==◌, nat_lt, nat_le, if◌then◌else◌, Option, Some, None, is_some, slice_index_or, Result, Ok, Err, IfOk}
 use Rattle.std.specs.List.{list_all, list_any}
 use Rattle.std.specs.Option.{option_or}
-use Rattle.std.proofs.lemmas.Bool.{cases_eq, cases_Bool, and_parts, and_from, and_right, or_cases, ltb-true, leb-true, le-ltb, eqb-true, ne_eqb, true≢false, not_from_false, false_from_ne_true}
+use Rattle.std.proofs.lemmas.Bool.{cases_eq, cases_Bool, and_parts, and_from, and_right, or_cases, ltb-true, leb-true, le-ltb, eq-eqb, eqb-true, ne_eqb, true≢false, not_from_false, false_from_ne_true}
 use Rattle.std.proofs.lemmas.List.{drop_more}
 use Rattle.std.proofs.lemmas.Int.{ints}
 use mir.Syntax.{w128}
@@ -71,40 +71,61 @@ level_high k w s j few h = elim (cases_eq j floor_level) [
       (low, omega arith)
 ]
 
-place_high : (k : Packing) (w : Weights) (s : Stage) (row : RowName) → s.level ≤ 7 → is_there k w s row ≡ true → place k.base_len (length s.cuts) row < k.base_len + length s.cuts + 7
-unfolding place
-place_high k w s (Base r) few h = let l = ltb-true r k.base_len h in omega arith
-place_high k w s (Cut c) few h = let l = ltb-true c (length s.cuts) h in omega arith
-place_high k w s (Level j) few h = let l = level_high k w s j few h in omega (arith, l.0, l.1)
+-- the numbers of the level rows that are there
+abbrev LevelsUpTo : Packing → Weights → Stage → ℕ → Type 0
+LevelsUpTo k w s top = (j : ℕ) → is_there k w s (Level j) ≡ true → (1 ≤ j) × (j ≤ top)
 
-place_rises : (k : Packing) (w : Weights) (s : Stage) (a b : RowName) → s.level ≤ 7 → row_before a b ≡ true → is_there k w s a ≡ true → is_there k w s b ≡ true → place k.base_len (length s.cuts) a < place k.base_len (length s.cuts) b
+place_high : (k : Packing) (w : Weights) (s : Stage) (top : ℕ) (row : RowName) → LevelsUpTo k w s top → is_there k w s row ≡ true → place k.base_len (length s.cuts) row < k.base_len + length s.cuts + top
 unfolding place
-place_rises k w s (Base a) (Base b) few h p q = ltb-true a b h
-place_rises k w s (Base a) (Cut b) few h p q = let l = ltb-true a k.base_len p in omega arith
-place_rises k w s (Base a) (Level b) few h p q = let l = ltb-true a k.base_len p in omega arith
-place_rises k w s (Cut a) (Base b) few h p q = absurd (true≢false (sym h))
-place_rises k w s (Cut a) (Cut b) few h p q = let l = ltb-true a b h in omega arith
-place_rises k w s (Cut a) (Level b) few h p q = let l = ltb-true a (length s.cuts) p in omega arith
-place_rises k w s (Level a) (Base b) few h p q = absurd (true≢false (sym h))
-place_rises k w s (Level a) (Cut b) few h p q = absurd (true≢false (sym h))
-place_rises k w s (Level a) (Level b) few h p q = let l = ltb-true a b h in let m = level_high k w s a few p in omega (arith, m.0)
+place_high k w s top (Base r) levels h = let l = ltb-true r k.base_len h in omega arith
+place_high k w s top (Cut c) levels h = let l = ltb-true c (length s.cuts) h in omega arith
+place_high k w s top (Level j) levels h = let l = levels j h in omega (arith, l.0, l.1)
 
-few_from : (k : Packing) (w : Weights) (s : Stage) (row : RowName) (ts : List Term) → s.level ≤ 7 → is_there k w s row ≡ true → rises_from row ts ≡ true → list_all (λ t. is_there k w s t.row) ts ≡ true
-    → place k.base_len (length s.cuts) row + length ts < k.base_len + length s.cuts + 7
-few_from k w s row [] few here rising there = omega (arith, place_high k w s row few here)
-few_from k w s row (t ∷ ts) few here rising there =
+place_rises : (k : Packing) (w : Weights) (s : Stage) (top : ℕ) (a b : RowName) → LevelsUpTo k w s top → row_before a b ≡ true → is_there k w s a ≡ true → is_there k w s b ≡ true → place k.base_len (length s.cuts) a < place k.base_len (length s.cuts) b
+unfolding place
+place_rises k w s top (Base a) (Base b) levels h p q = ltb-true a b h
+place_rises k w s top (Base a) (Cut b) levels h p q = let l = ltb-true a k.base_len p in omega arith
+place_rises k w s top (Base a) (Level b) levels h p q = let l = ltb-true a k.base_len p in omega arith
+place_rises k w s top (Cut a) (Base b) levels h p q = absurd (true≢false (sym h))
+place_rises k w s top (Cut a) (Cut b) levels h p q = let l = ltb-true a b h in omega arith
+place_rises k w s top (Cut a) (Level b) levels h p q = let l = ltb-true a (length s.cuts) p in omega arith
+place_rises k w s top (Level a) (Base b) levels h p q = absurd (true≢false (sym h))
+place_rises k w s top (Level a) (Cut b) levels h p q = absurd (true≢false (sym h))
+place_rises k w s top (Level a) (Level b) levels h p q = let l = ltb-true a b h in let m = levels a p in omega (arith, m.0)
+
+few_from : (k : Packing) (w : Weights) (s : Stage) (top : ℕ) (row : RowName) (ts : List Term) → LevelsUpTo k w s top → is_there k w s row ≡ true → rises_from row ts ≡ true → list_all (λ t. is_there k w s t.row) ts ≡ true
+    → place k.base_len (length s.cuts) row + length ts < k.base_len + length s.cuts + top
+few_from k w s top row [] levels here rising there = omega (arith, place_high k w s top row levels here)
+few_from k w s top row (t ∷ ts) levels here rising there =
     let order = and_parts (row_before row t.row) (rises_from t.row ts) rising in
     let parts = and_parts (is_there k w s t.row) (list_all (λ u. is_there k w s u.row) ts) there in
-    let less = place_rises k w s row t.row few order.0 here parts.0 in
-    let rest = few_from k w s t.row ts few parts.0 order.1 parts.1 in
+    let less = place_rises k w s top row t.row levels order.0 here parts.0 in
+    let rest = few_from k w s top t.row ts levels parts.0 order.1 parts.1 in
+    omega arith
+
+few_rows : (k : Packing) (w : Weights) (s : Stage) (top : ℕ) (ts : List Term) → LevelsUpTo k w s top → rises ts ≡ true → list_all (λ t. is_there k w s t.row) ts ≡ true → length ts ≤ k.base_len + length s.cuts + top
+few_rows k w s top [] levels rising there = omega arith
+few_rows k w s top (t ∷ ts) levels rising there =
+    let parts = and_parts (is_there k w s t.row) (list_all (λ u. is_there k w s u.row) ts) there in
+    let rest = few_from k w s top t.row ts levels parts.0 rising parts.1 in
     omega arith
 
 pub few_terms : (k : Packing) (w : Weights) (s : Stage) (ts : List Term) → k.base_len ≤ 4000 → length s.cuts ≤ 1000 → s.level ≤ 7 → rises ts ≡ true → list_all (λ t. is_there k w s t.row) ts ≡ true → length ts ≤ 5007
-few_terms k w s [] base cuts few rising there = omega arith
-few_terms k w s (t ∷ ts) base cuts few rising there =
-    let parts = and_parts (is_there k w s t.row) (list_all (λ u. is_there k w s u.row) ts) there in
-    let rest = few_from k w s t.row ts few parts.0 rising parts.1 in
-    omega arith
+few_terms k w s ts base cuts few rising there = omega (arith, few_rows k w s 7 ts (λ j h. level_high k w s j few h) rising there)
+
+-- without a floor the level rows are those of the levels below
+level_below : (k : Packing) (w : Weights) (s : Stage) (j : ℕ) → w.floor ≡ None → s.level ≤ 6 → is_there k w s (Level j) ≡ true → (1 ≤ j) × (j ≤ 5)
+level_below k w s j none few h = elim (cases_eq j floor_level) [
+  | inl same ↦ absurd (true≢false (sym h ∙ ap (λ b. if b then is_some w.floor else nat_le 1 j && nat_lt j s.level) (eq-eqb j floor_level same) ∙ ap is_some none))
+  | inr ne ↦
+      let range : (nat_le 1 j && nat_lt j s.level) ≡ true = sym (ap (λ b. if b then is_some w.floor else nat_le 1 j && nat_lt j s.level) (ne_eqb j floor_level ne)) ∙ h in
+      let parts = and_parts (nat_le 1 j) (nat_lt j s.level) range in
+      let high = ltb-true j s.level parts.1 in
+      (leb-true 1 j parts.0, omega arith)
+]
+
+pub few_plain_terms : (k : Packing) (w : Weights) (s : Stage) (ts : List Term) → k.base_len ≤ 4000 → length s.cuts ≤ 1000 → w.floor ≡ None → s.level ≤ 6 → rises ts ≡ true → list_all (λ t. is_there k w s t.row) ts ≡ true → length ts ≤ 5005
+few_plain_terms k w s ts base cuts none few rising there = omega (arith, few_rows k w s 5 ts (λ j h. level_below k w s j none few h) rising there)
 
 rises_from-take : (row : RowName) (ts : List Term) (i : ℕ) → rises_from row ts ≡ true → rises_from row (take i ts) ≡ true
 rises_from-take row ts zero h = refl

@@ -1,5 +1,5 @@
 -- What making a model's tables answers.
-use Rattle.std.specs.Prelude.{ℕ, ◌≡◌, ◌<◌, List, length, Some, Result, Ok, Err}
+use Rattle.std.specs.Prelude.{◌≡◌, ◌<◌, List, length, Some, Result, Ok, Err}
 use Rattle.problem_core.specs.Facts.{Facts}
 use Rattle.problem_core.specs.declared.limit.LimitKind.TheVariants.{Rows}
 use Rattle.problem_core.specs.declared.limit.BuildFault.{BuildFault}

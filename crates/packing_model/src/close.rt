@@ -279,8 +279,9 @@ fn test_bound<O: Objective>(
     }
 }
 
-// What the rows are worth, and the reduced costs of the patterns that are taken.
-fn left_of<O: Objective>(at: &ObjectiveAt<O>, leaf: &Leaf, times: &[i128; 7]) -> i128
+/// The left side of a leaf's bound, for terms whose rows are there: what the rows are worth, and the reduced
+/// costs of the patterns that are taken. `times` are the multipliers of the leaf's level rows.
+pub fn left_of<O: Objective>(at: &ObjectiveAt<O>, leaf: &Leaf, times: &[i128; 7]) -> i128
     requires count { O.count at.now.objective.now ≡ length (patterns_of at.now.model.now) }
     requires pool { IsPoolOf (packing at.now.model.now) at.now.pool.now }
     requires fixing { IsValidFixing (packing at.now.model.now) at.now.fixing.now }

@@ -15,7 +15,7 @@ mod row;
 mod rows;
 mod runs;
 
-pub use close::{At, ObjectiveAt, close_leaf, leaf_closes};
+pub use close::{At, ObjectiveAt, close_leaf, leaf_closes, left_of};
 pub use cut::{Cut, CutFault};
 pub use duality::{Leaf, LeafFault, RowName, Run, Term};
 pub use fixing::Fixing;

@@ -7,3 +7,4 @@ pub mod FaultLemmas
 pub mod SumLemmas
 pub mod TakenLemmas
 pub mod ValidLemmas
+pub mod MeasureLemmas

@@ -12,10 +12,10 @@ use Rattle.problem_core.specs.declared.parts.Parts.{Parts}
 use Rattle.problem_core.specs.declared.parts.EventPart.{EventPart}
 use Rattle.problem_core.proofs.RunLemmas.{runs_meet}
 
-abbrev no_part : EventPart
+abbrev pub no_part : EventPart
 no_part = record { course = 0; slot = 0; length = 0 }
 
-event_at-parts : (p : Parts) (e : ℕ) → e < length p.events → event_at (facts_of p) e ≡ event_of (get_or p.events e no_part)
+pub event_at-parts : (p : Parts) (e : ℕ) → e < length p.events → event_at (facts_of p) e ≡ event_of (get_or p.events e no_part)
 event_at-parts p e l = get_or-map event_of p.events e no_part no_event l
 
 before_apart : (a n b m : ℕ) → a + n ≤ b → (nat_lt a (b + m) && nat_lt b (a + n) && nat_lt 0 n && nat_lt 0 m) ≡ false

@@ -1,11 +1,12 @@
-ghost use Rattle.std.specs.Prelude.{◌≡◌, ◌==◌, ◌<◌, ◌≤◌, ◌+◌, ℕ, pos, length, IsTrue, slice_index};
+ghost use Rattle.std.specs.Prelude.{◌≡◌, ◌==◌, ◌<◌, ◌≤◌, ◌+◌, ℕ, List, pos, length, IsTrue, slice_index};
 ghost use Rattle.std.specs.List.{list_any, AllByRecursion};
 ghost use Rattle.problem_core.specs.Courses.{events_of, place_of};
 ghost use Rattle.problem_core.specs.OfParts.{facts_of, well_formed};
 ghost use Rattle.problem_core.specs.Limits.{Builds};
 ghost use Rattle.problem_core.specs.Valid.{IsProblem};
 ghost use Rattle.problem_core.specs.Kept.{IsWithin};
-ghost use Rattle.problem_core.specs.Measures.{points_of};
+ghost use Rattle.problem_core.specs.Choice.{IsLegal};
+ghost use Rattle.problem_core.specs.Measures.{points_of, measure};
 ghost use Rattle.problem_core.specs.Facts.{suits, share_slot, admits, is_closed, course_of, event_at, hours_of, run_of};
 
 use crate::courses::{CourseTable, ROW};
@@ -61,6 +62,13 @@ impl Problem {
     /// course have no slot in common. It computes nothing.
     pub fn laws(&self)
         ensures { IsProblem self.now }
+    {
+        let _ = &self.parts;
+    }
+
+    /// The measures of a legal choice are at most 192,000,000,000 in size. It computes nothing.
+    pub fn measure_laws(&self)
+        ensures { (k : ℕ) (a : List ℕ) → IsLegal self.now a → IsWithin (pos 192000000000) (measure self.now k a) }
     {
         let _ = &self.parts;
     }

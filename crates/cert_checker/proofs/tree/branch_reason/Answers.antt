@@ -1,5 +1,5 @@
 use Rattle.packing_model.specs.Built.{packing}
-use Rattle.cert_checker.proofs.FixingLaws.{walk_fixing}
+use Rattle.search_nodes.proofs.FixingLaws.{walk_fixing}
 use Rattle.cert_checker.proofs.tree.branch_reason.Goals as goal
 
 pub is_free-requires-clause-fixing : goal.is_free-requires-clause-fixing

@@ -1,6 +1,5 @@
 use Rattle.std.proofs.Common.{ℕ, List, ◌≤◌, sym, subst, length, ◌+◌}
 use Rattle.std.specs.Prelude.{slice_index}
-use Rattle.meeting_patterns.specs.Pattern.{ArePatterns}
 use Rattle.packing_model.specs.Keys.{AreRuns}
 use Rattle.packing_model.proofs.ModelLemmas.{model_is}
 use Rattle.packing_model.proofs.PlaceLemmas.{numbers_few}

@@ -1,4 +1,4 @@
-use Rattle.cert_checker.proofs.FixingLaws.{walk_valid}
+use Rattle.search_nodes.proofs.FixingLaws.{walk_valid}
 use Rattle.cert_checker.proofs.tree.TreeAt.close.Goals as goal
 
 pub close_leaf-requires-clause-fixing : goal.close_leaf-requires-clause-fixing

@@ -4,7 +4,7 @@ use Rattle.duality.specs.Walk.{fixing_of}
 use Rattle.packing_model.specs.Built.{packing}
 use Rattle.packing_model.specs.Closing.{counted}
 use Rattle.packing_model.specs.Nodes.{stage_at}
-use Rattle.cert_checker.specs.Paths.{path_of}
+use Rattle.search_nodes.specs.Paths.{path_of}
 use Rattle.cert_checker.proofs.ReasonLemmas.{leaf_at_fault}
 use Rattle.cert_checker.proofs.tree.TreeAt.leaf_reason.Goals as goal
 

@@ -1,0 +1,3 @@
+pub mod DualLaws
+pub mod FixedLaws
+pub mod BoundLaws

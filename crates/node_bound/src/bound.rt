@@ -1,0 +1,14 @@
+use packing_model::{Leaf, Point};
+use problem_core::Choice;
+
+/// What is known at a node: a leaf that closes there; a better choice; a point that shows that no leaf closes
+/// there; that a number of the arithmetic did not fit, with the counts of such numbers before and after; or
+/// that so many pivots were spent.
+#[derive(Drop)]
+pub enum Bounded {
+    Closed(Leaf),
+    Better(Choice),
+    Gap(Point),
+    Wide { before: u64, after: u64 },
+    Stalled { pivots: u64 },
+}

@@ -1,0 +1,12 @@
+//! What is known at a node of a search where no pattern is free: a leaf that closes there, or a better choice.
+#![tactic(auto)]
+
+mod bound;
+mod fixed;
+mod free;
+mod laws;
+
+pub use bound::Bounded;
+pub use fixed::{close_fixed, close_fixed_at};
+pub use free::lowest_free;
+pub use laws::bound_laws;

@@ -1,0 +1,5 @@
+pub mod Paths
+pub mod Points
+pub mod Leaves
+pub mod Choices
+pub mod SharedRows
