@@ -1,6 +1,6 @@
 -- No meeting is at fault exactly where the problem exists.
-use Rattle.std.proofs.Common.{ℕ, ◌≡◌, ◌<◌, ◌≤◌, ◌+◌, ◌++◌, zero, suc, Bool, true, false, cond, not, List, [], ◌∷◌, length, take, refl, ap, sym, subst, ◌∙◌, arith, append_assoc, append-nil}
-use Rattle.std.specs.Prelude.{◌==◌, ◌&&◌, nat_lt, None, slice_index_or}
+use Rattle.std.proofs.Common.{ℕ, ◌≡◌, ◌<◌, ◌++◌, zero, suc, Bool, true, false, List, [], ◌∷◌, length, take, refl, sym, subst, arith, append_assoc, append-nil}
+use Rattle.std.specs.Prelude.{◌==◌, ◌&&◌, None, slice_index_or}
 use Rattle.std.specs.List.{list_any}
 use Rattle.std.proofs.lemmas.Bool.{or_parts, or_from, eq-eqb, eqb-true, ltb-false, le-ltb}
 use Rattle.std.proofs.lemmas.List.{get_or-take, length-take-le}
@@ -8,8 +8,8 @@ use Rattle.ctt_reader.specs.declared.instance.Instance.{Instance}
 use Rattle.timed_solution.specs.declared.times.Times.{Times}
 use Rattle.timed_solution.specs.declared.times.Meeting.{Meeting}
 use Rattle.measure_file.specs.declared.measures.Measures.{Measures}
-use Rattle.room_model.specs.ProblemOf.{length_of, event_part}
-use Rattle.room_model.specs.Long.{overlaps, share_slot, passes_day, fault_after, long_from, long_fault}
+use Rattle.room_model.specs.ProblemOf.{event_part}
+use Rattle.room_model.specs.Long.{overlaps, share_slot, fault_after, long_from, long_fault}
 use Rattle.room_model.specs.Existence.{no_meeting, meeting_at, ProblemExists}
 use Rattle.room_model.proofs.LongLemmas.{IsFree, none-first, free-where, none-placed}
 

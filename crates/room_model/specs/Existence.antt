@@ -1,5 +1,5 @@
 -- When the values of three files have a problem.
-use Rattle.std.specs.Prelude.{ℕ, ◌≡◌, ◌+◌, ◌<◌, ◌≤◌, ◌↔◌, Bool, false, List, length, None, slice_index_or}
+use Rattle.std.specs.Prelude.{ℕ, ◌≡◌, ◌+◌, ◌<◌, ◌≤◌, ◌↔◌, false, List, length, None, slice_index_or}
 use Rattle.ctt_reader.specs.declared.instance.Instance.{Instance}
 use Rattle.timed_solution.specs.declared.times.Times.{Times}
 use Rattle.timed_solution.specs.declared.times.Meeting.{Meeting}
