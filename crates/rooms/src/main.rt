@@ -2,25 +2,19 @@
 #![tactic(auto)]
 
 use input_core::{FileShelf, OutSink};
-use rooms_cmd::run;
+use rooms_cmd::{NoWords, exit_status};
 use std::env;
 use std::process::ExitCode;
 
-/// The exit status where the arguments are no texts, which `run` never answers.
-const NO_TEXTS: u8 = 9;
-/// The exit status where memory runs out.
-const MEMORY: u8 = 7;
-
 fn main(rt: HostRuntime) -> ExitCode {
-    let alloc = rt.alloc();
-    let Ok(args) = env::args(&rt) else {
-        return ExitCode::from(NO_TEXTS);
-    };
-    let Ok(words) = args.skip(1).collect::<Vec<String>>(alloc) else {
-        return ExitCode::from(MEMORY);
-    };
     let mut shelf = FileShelf::new(&rt);
     let mut out = OutSink::new(&rt);
-    let status = run(alloc, words.as_slice(), &mut shelf, &mut out);
-    ExitCode::from(status.number())
+    let status = exit_status(rt.alloc(), arguments(&rt), &mut shelf, &mut out);
+    ExitCode::from(status)
+}
+
+/// The arguments of the program, of which the first is its name.
+fn arguments(rt: &HostRuntime) -> Result<Vec<String>, NoWords> {
+    let all = env::args(rt)?.collect(rt.alloc())?;
+    Ok(all)
 }

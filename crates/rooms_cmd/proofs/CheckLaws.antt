@@ -1,5 +1,5 @@
 -- From the answers of the steps to the answer of `check`.
-use Rattle.std.proofs.Common.{ℕ, ◌≡◌, ◌≤◌, ◌+◌, arith, inl, inr, sym, ◌∙◌, subst, List, [], ◌∷◌, ◌++◌, length, map, suc, Bool, true}
+use Rattle.std.proofs.Common.{ℕ, ◌≡◌, ◌≤◌, arith, inl, inr, sym, ◌∙◌, subst, List, [], ◌∷◌, ◌++◌, length, map, suc, Bool, true}
 use Rattle.std.specs.Prelude.{ℤ, pos, negsuc, ◌^◌, ◌==◌, Option, None, Result, Ok, Err, IfOk}
 use Rattle.std.proofs.lemmas.Bool.{and_parts, leb-true}
 use Rattle.std.proofs.lemmas.Int.{ints}

@@ -5,3 +5,5 @@ mod FaultLaws
 mod WordLaws
 mod ExpectedLaws
 mod CheckLaws
+mod CallLaws
+mod ExitLaws

@@ -1,6 +1,5 @@
 -- From the answers of the steps to the answer of `measure`.
-use Rattle.std.proofs.Common.{ℕ, ◌≡◌, ◌≤◌, inl, inr, sym, subst, List, Bool}
-use Rattle.std.specs.Prelude.{Option}
+use Rattle.std.proofs.Common.{ℕ, List, Bool}
 use Rattle.ctt_reader.specs.declared.instance.Instance.{Instance}
 use Rattle.timed_solution.specs.declared.times.Times.{Times}
 use Rattle.measure_file.specs.declared.measures.Measures.{Measures}

@@ -1,6 +1,6 @@
 -- From the answers of the steps to the answer of the command.
 use Rattle.std.proofs.Common.{ℕ, ◌≡◌, ◌≢◌, inl, inr, ◌<◌, ◌≤◌, sym, ◌∙◌, ap, ap₂, ◌++◌, subst, arith, List, [], ◌∷◌, length, Bool, true, cond, zero, suc, get_or}
-use Rattle.std.specs.Prelude.{Option, None, Some, ◌==◌, ◌-◌, map, codes}
+use Rattle.std.specs.Prelude.{Option, None, Some, Result, Ok, Err, IfOk, ◌==◌, ◌-◌, map, codes}
 use Rattle.std.specs.Fmt.{signed_decimal}
 use Rattle.std.specs.List.{list_all}
 use Rattle.std.proofs.lemmas.Bool.{and_parts}
@@ -26,6 +26,7 @@ use Rattle.room_model.proofs.PlainLemmas.{never_long}
 use Rattle.rooms_cmd.specs.Plain.{plain_problem}
 use Rattle.rooms_cmd.specs.Texts.{AreNamed, unplaced, placed_text, meeting_lines}
 use Rattle.rooms_cmd.specs.Run.{Held, GivesInstance, GivesTimes, IsFaultyTimes, FileStops, IsUnread, SolveExplains, ProblemStops, PlaceExplains, Stops}
+use Rattle.rooms_cmd.specs.declared.answer.Answer.{Answer}
 use Rattle.rooms_cmd.specs.declared.answer.Stop.{Stop}
 use Rattle.rooms_cmd.specs.declared.answer.Stop.TheVariants as stops
 use Rattle.rooms_cmd.specs.declared.status.Status.{Status}
@@ -77,7 +78,7 @@ problem_stops tells held n m i t before now text status gives_i gives_t times h 
     never_some (Some other) fault e f = cc
 
 -- the first choice answers
-pub placing_answers : (tells : Bool) (held : Held) (n m : List ℕ) (i : Instance) (t : Times) (before now : ℕ) (text : List ℕ) (status : Status)
+placing_answers : (tells : Bool) (held : Held) (n m : List ℕ) (i : Instance) (t : Times) (before now : ℕ) (text : List ℕ) (status : Status)
     → GivesInstance tells (held n) i → GivesTimes tells (held m) i t → limit_of (plain_problem i t) ≡ None → PlaceExplains i t text status
     → SolveExplains tells held n m before now text status
 placing_answers tells held n m i t before now text Done gives_i gives_t p h = record {
@@ -104,6 +105,12 @@ placing_answers tells held n m i t before now text BadInput gives_i gives_t p h 
 placing_answers tells held n m i t before now text ReadFault gives_i gives_t p h = absurd h
 placing_answers tells held n m i t before now text WriteFault gives_i gives_t p h = h
 placing_answers tells held n m i t before now text Memory gives_i gives_t p h = h
+
+pub placing_answer : (tells : Bool) (held : Held) (n m : List ℕ) (i : Instance) (t : Times) (before now : ℕ) (r : Result Answer Stop)
+    → GivesInstance tells (held n) i → GivesTimes tells (held m) i t → IfOk r (λ _. limit_of (plain_problem i t) ≡ None) → IfOk r (λ a. PlaceExplains i t a.text.items a.status)
+    → IfOk r (λ a. SolveExplains tells held n m before now a.text.items a.status)
+placing_answer tells held n m i t before now (Ok a) gives_i gives_t few h = placing_answers tells held n m i t before now a.text.items a.status gives_i gives_t few h
+placing_answer tells held n m i t before now (Err stop) gives_i gives_t few h = tt
 
 -- where no entry is 0, each meeting has a room
 pub all_placed : (a : List ℕ) → unplaced a ≡ 0 → (e : ℕ) → e < length a → entry a e ≢ 0

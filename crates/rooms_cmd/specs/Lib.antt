@@ -5,4 +5,8 @@ pub mod Texts
 pub mod Run
 pub mod Checks
 pub mod Ends
+pub mod Calls
+pub mod Files
+pub mod Causes
+pub mod Exits
 pub mod Expected

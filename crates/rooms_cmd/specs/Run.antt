@@ -1,5 +1,5 @@
 -- What a run answers, and why.
-use Rattle.std.specs.Prelude.{ℕ, ◌≡◌, ◌⊎◌, ◌<◌, ◌≤◌, List, [], ◌++◌, length, take, Bool, IsTrue, Option, Some, None, IsSomeAnd, IfSome, Ok, Err}
+use Rattle.std.specs.Prelude.{ℕ, ◌≡◌, ◌⊎◌, ◌<◌, List, length, Bool, IsTrue, Option, Some, None, IsSomeAnd, Ok, Err}
 use Rattle.input_core.specs.Causes.{Rose}
 use Rattle.input_core.specs.Reading.{IsWhole}
 use Rattle.input_core.specs.declared.faults.LineFault.{LineFault}

@@ -6,6 +6,8 @@ ghost use Rattle.input_core.specs.Reading.{IsWhole};
 ghost use Rattle.problem_core.specs.Kept.{IsWithin};
 ghost use Rattle.packing_model.specs.Built.{model_limit};
 ghost use Rattle.rooms_cmd.specs.Run.{Stops};
+ghost use Rattle.rooms_cmd.specs.Calls.{NoReadOfStepFailed};
+ghost use Rattle.rooms_cmd.specs.Files.{FileExplains};
 ghost use Rattle.rooms_cmd.specs.Checks.{CheckExplains, IsModelOf, FilesStop, ModelStops, CertificateStops, VerdictExplains, certificate_limit, reason_text, verified_text, not_verified_text, long_certificate_text};
 
 use crate::answer::{Answer, Stop};
@@ -34,11 +36,27 @@ pub fn check<S: Shelf>(
 ) -> Result<Answer, Stop>
     ensures answers { IfOk result (λ a. CheckExplains (S.tells shelf.old) (S.held shelf.old) instance_name.now times_name.now measures_name.now certificate_name.now (S.piece_faults shelf.old) (S.piece_faults shelf.new) a.text.items a.status) }
     ensures stops { IfErr result (Stops (CheckExplains (S.tells shelf.old) (S.held shelf.old) instance_name.now times_name.now measures_name.now certificate_name.now (S.piece_faults shelf.old) (S.piece_faults shelf.new))) }
+    ensures calls { NoReadOfStepFailed (S.piece_faults shelf.old) (S.piece_faults shelf.new) result }
     ensures only { OnlyReads S.tells S.held S.piece_faults S.put_faults shelf.old shelf.new }
 {
     let model = load_model(alloc, shelf, instance_name, times_name, measures_name)?;
-    let bytes = load_certificate(alloc, shelf, certificate_name)?;
-    judge(alloc, &model, bytes.as_slice())
+    judge_file(alloc, shelf, &model, certificate_name)
+}
+
+/// The verdict on the certificate that a file holds.
+fn judge_file<S: Shelf>(
+    alloc: Global,
+    shelf: &mut S,
+    model: &Model,
+    name: &str,
+) -> Result<Answer, Stop>
+    ensures answers { IfOk result (λ a. FileExplains (S.tells shelf.old) (S.held shelf.old name.now) model.now a.text.items a.status) }
+    ensures stops { IfErr result (Stops (CertificateStops (S.tells shelf.old) (S.held shelf.old name.now) (S.piece_faults shelf.old) (S.piece_faults shelf.new) name.now)) }
+    ensures calls { NoReadOfStepFailed (S.piece_faults shelf.old) (S.piece_faults shelf.new) result }
+    ensures only { OnlyReads S.tells S.held S.piece_faults S.put_faults shelf.old shelf.new }
+{
+    let bytes = load_certificate(alloc, shelf, name)?;
+    judge(alloc, model, bytes.as_slice())
 }
 
 /// The model of the problem of three files.
@@ -51,6 +69,7 @@ fn load_model<S: Shelf>(
 ) -> Result<Model, Stop>
     ensures gives { IfOk result (IsModelOf (S.tells shelf.old) (S.held shelf.old) instance_name.now times_name.now measures_name.now) }
     ensures stops { IfErr result (Stops (FilesStop (S.tells shelf.old) (S.held shelf.old) instance_name.now times_name.now measures_name.now (S.piece_faults shelf.old) (S.piece_faults shelf.new))) }
+    ensures calls { NoReadOfStepFailed (S.piece_faults shelf.old) (S.piece_faults shelf.new) result }
     ensures only { OnlyReads S.tells S.held S.piece_faults S.put_faults shelf.old shelf.new }
 {
     let loaded = load_three(alloc, shelf, instance_name, times_name, measures_name)?;
@@ -77,6 +96,7 @@ fn build_model(alloc: Global, problem: Problem) -> Result<Model, Stop>
 fn load_certificate<S: Shelf>(alloc: Global, shelf: &mut S, name: &str) -> Result<Vec<u8>, Stop>
     ensures whole { IfOk result (λ v. IsWhole (S.tells shelf.old) (S.held shelf.old name.now) certificate_limit v.items) }
     ensures stops { IfErr result (Stops (CertificateStops (S.tells shelf.old) (S.held shelf.old name.now) (S.piece_faults shelf.old) (S.piece_faults shelf.new) name.now)) }
+    ensures calls { NoReadOfStepFailed (S.piece_faults shelf.old) (S.piece_faults shelf.new) result }
     ensures only { OnlyReads S.tells S.held S.piece_faults S.put_faults shelf.old shelf.new }
 {
     match read_all(alloc, shelf, name, CERTIFICATE_LIMIT) {

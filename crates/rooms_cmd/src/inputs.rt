@@ -1,7 +1,8 @@
-ghost use Rattle.std.specs.Prelude.{◌≡◌, IfOk, IfErr};
+ghost use Rattle.std.specs.Prelude.{◌≡◌, ℕ, List, IfOk, IfErr};
 ghost use Rattle.input_core.specs.Reading.{IsWhole};
 ghost use Rattle.input_core.specs.Shelf.{OnlyReads};
 ghost use Rattle.rooms_cmd.specs.Run.{limit, AreGiven, ThreeStop, GivesInstance, GivesTimes, GivesMeasures, IsFaultyInstance, IsFaultyTimes, IsFaultyMeasures, NoFault, IsProblem, ProblemStops, Stops, FileStops};
+ghost use Rattle.rooms_cmd.specs.Calls.{NoReadOfStepFailed};
 ghost use Rattle.rooms_cmd.specs.Texts.{bad_line_text};
 ghost use Rattle.ctt_reader.specs.Promised.{IsInstance};
 ghost use Rattle.timed_solution.specs.Times.{AreTimes};
@@ -23,6 +24,7 @@ pub fn load_instance<S: Shelf>(alloc: Global, shelf: &mut S, name: &str) -> Resu
     ensures gives { IfOk result (GivesInstance (S.tells shelf.old) (S.held shelf.old name.now)) }
     ensures fits { IfOk result IsInstance }
     ensures stops { IfErr result (Stops (FileStops (S.tells shelf.old) (S.held shelf.old name.now) (S.piece_faults shelf.old) (S.piece_faults shelf.new) (IsFaultyInstance (S.tells shelf.old) (S.held shelf.old name.now)) name.now)) }
+    ensures calls { NoReadOfStepFailed (S.piece_faults shelf.old) (S.piece_faults shelf.new) result }
     ensures only { OnlyReads S.tells S.held S.piece_faults S.put_faults shelf.old shelf.new }
 {
     let bytes = load(alloc, shelf, name)?;
@@ -44,6 +46,7 @@ pub fn load_times<S: Shelf>(
     ensures gives { IfOk result (GivesTimes (S.tells shelf.old) (S.held shelf.old name.now) instance.now) }
     ensures fits { IfOk result (λ t. AreTimes instance.now t.meetings) }
     ensures stops { IfErr result (Stops (FileStops (S.tells shelf.old) (S.held shelf.old name.now) (S.piece_faults shelf.old) (S.piece_faults shelf.new) (IsFaultyTimes (S.tells shelf.old) (S.held shelf.old name.now) instance.now) name.now)) }
+    ensures calls { NoReadOfStepFailed (S.piece_faults shelf.old) (S.piece_faults shelf.new) result }
     ensures only { OnlyReads S.tells S.held S.piece_faults S.put_faults shelf.old shelf.new }
 {
     let bytes = load(alloc, shelf, name)?;
@@ -65,6 +68,7 @@ pub fn load_measures<S: Shelf>(
     ensures gives { IfOk result (GivesMeasures (S.tells shelf.old) (S.held shelf.old name.now) instance.now) }
     ensures fits { IfOk result (λ m. AreMeasures instance.now m) }
     ensures stops { IfErr result (Stops (FileStops (S.tells shelf.old) (S.held shelf.old name.now) (S.piece_faults shelf.old) (S.piece_faults shelf.new) (IsFaultyMeasures (S.tells shelf.old) (S.held shelf.old name.now) instance.now) name.now)) }
+    ensures calls { NoReadOfStepFailed (S.piece_faults shelf.old) (S.piece_faults shelf.new) result }
     ensures only { OnlyReads S.tells S.held S.piece_faults S.put_faults shelf.old shelf.new }
 {
     let bytes = load(alloc, shelf, name)?;
@@ -106,6 +110,7 @@ pub fn load_problem(
 fn load<S: Shelf>(alloc: Global, shelf: &mut S, name: &str) -> Result<Vec<u8>, Stop>
     ensures whole { IfOk result (λ v. IsWhole (S.tells shelf.old) (S.held shelf.old name.now) limit v.items) }
     ensures stops { IfErr result (Stops (FileStops (S.tells shelf.old) (S.held shelf.old name.now) (S.piece_faults shelf.old) (S.piece_faults shelf.new) NoFault name.now)) }
+    ensures calls { NoReadOfStepFailed (S.piece_faults shelf.old) (S.piece_faults shelf.new) result }
     ensures only { OnlyReads S.tells S.held S.piece_faults S.put_faults shelf.old shelf.new }
 {
     match read_all(alloc, shelf, name, INPUT_LIMIT) {
@@ -144,6 +149,21 @@ pub struct Loaded {
     pub problem: Problem,
 }
 
+/// The times, the measures and the problem of an instance.
+#[derive(Drop)]
+struct Timed {
+    times: Times,
+    measures: Measures,
+    problem: Problem,
+}
+
+/// The measures and the problem of an instance and its times.
+#[derive(Drop)]
+struct Measured {
+    measures: Measures,
+    problem: Problem,
+}
+
 /// The values that three files hold, one file after the other, and their problem.
 pub fn load_three<S: Shelf>(
     alloc: Global,
@@ -156,16 +176,62 @@ pub fn load_three<S: Shelf>(
     ensures fits { IfOk result (λ l. AreTimes l.instance l.times.meetings) }
     ensures problem { IfOk result (λ l. IsProblem l.instance l.times l.measures l.problem) }
     ensures stops { IfErr result (Stops (ThreeStop (S.tells shelf.old) (S.held shelf.old) instance_name.now times_name.now measures_name.now (S.piece_faults shelf.old) (S.piece_faults shelf.new))) }
+    ensures calls { NoReadOfStepFailed (S.piece_faults shelf.old) (S.piece_faults shelf.new) result }
     ensures only { OnlyReads S.tells S.held S.piece_faults S.put_faults shelf.old shelf.new }
 {
     let instance = load_instance(alloc, shelf, instance_name)?;
-    let times = load_times(alloc, shelf, &instance, times_name)?;
-    let measures = load_measures(alloc, shelf, &instance, measures_name)?;
-    let problem = load_problem(alloc, &instance, &times, &measures)?;
+    let timed = load_timed(alloc, shelf, &instance, times_name, measures_name)?;
     Ok(Loaded {
         instance,
-        times,
-        measures,
-        problem,
+        times: timed.times,
+        measures: timed.measures,
+        problem: timed.problem,
     })
+}
+
+/// The times and the measures that two files hold, and their problem.
+fn load_timed<S: Shelf>(
+    alloc: Global,
+    shelf: &mut S,
+    instance: &Instance,
+    times_name: &str,
+    measures_name: &str,
+) -> Result<Timed, Stop>
+    requires { IsInstance instance.now }
+    ensures times { IfOk result (λ t. GivesTimes (S.tells shelf.old) (S.held shelf.old times_name.now) instance.now t.times) }
+    ensures measures { IfOk result (λ t. GivesMeasures (S.tells shelf.old) (S.held shelf.old measures_name.now) instance.now t.measures) }
+    ensures fits { IfOk result (λ t. AreTimes instance.now t.times.meetings) }
+    ensures problem { IfOk result (λ t. IsProblem instance.now t.times t.measures t.problem) }
+    ensures stops { (n : List ℕ) → GivesInstance (S.tells shelf.old) (S.held shelf.old n) instance.now → IfErr result (Stops (ThreeStop (S.tells shelf.old) (S.held shelf.old) n times_name.now measures_name.now (S.piece_faults shelf.old) (S.piece_faults shelf.new))) }
+    ensures calls { NoReadOfStepFailed (S.piece_faults shelf.old) (S.piece_faults shelf.new) result }
+    ensures only { OnlyReads S.tells S.held S.piece_faults S.put_faults shelf.old shelf.new }
+{
+    let times = load_times(alloc, shelf, instance, times_name)?;
+    let measured = load_measured(alloc, shelf, instance, &times, measures_name)?;
+    Ok(Timed {
+        times,
+        measures: measured.measures,
+        problem: measured.problem,
+    })
+}
+
+/// The measures that a file holds, and the problem.
+fn load_measured<S: Shelf>(
+    alloc: Global,
+    shelf: &mut S,
+    instance: &Instance,
+    times: &Times,
+    measures_name: &str,
+) -> Result<Measured, Stop>
+    requires instance { IsInstance instance.now }
+    requires times { AreTimes instance.now times.now.meetings }
+    ensures measures { IfOk result (λ m. GivesMeasures (S.tells shelf.old) (S.held shelf.old measures_name.now) instance.now m.measures) }
+    ensures problem { IfOk result (λ m. IsProblem instance.now times.now m.measures m.problem) }
+    ensures stops { (n k : List ℕ) → GivesInstance (S.tells shelf.old) (S.held shelf.old n) instance.now → GivesTimes (S.tells shelf.old) (S.held shelf.old k) instance.now times.now → IfErr result (Stops (ThreeStop (S.tells shelf.old) (S.held shelf.old) n k measures_name.now (S.piece_faults shelf.old) (S.piece_faults shelf.new))) }
+    ensures calls { NoReadOfStepFailed (S.piece_faults shelf.old) (S.piece_faults shelf.new) result }
+    ensures only { OnlyReads S.tells S.held S.piece_faults S.put_faults shelf.old shelf.new }
+{
+    let measures = load_measures(alloc, shelf, instance, measures_name)?;
+    let problem = load_problem(alloc, instance, times, &measures)?;
+    Ok(Measured { measures, problem })
 }

@@ -4,6 +4,7 @@
 mod answer;
 mod check;
 mod command;
+mod exit;
 mod inputs;
 mod measure;
 mod solve;
@@ -12,4 +13,5 @@ mod texts;
 mod value_lines;
 
 pub use command::run;
+pub use exit::{NoWords, exit_status};
 pub use status::Status;

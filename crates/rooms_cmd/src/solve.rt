@@ -1,8 +1,11 @@
-ghost use Rattle.std.specs.Prelude.{◌≡◌, IfOk, IfErr};
+ghost use Rattle.std.specs.Prelude.{◌≡◌, None, IfOk, IfErr};
 ghost use Rattle.input_core.specs.Shelf.{OnlyReads};
 ghost use Rattle.measure_file.specs.Grammar.{no_measures};
 ghost use Rattle.rooms_cmd.specs.Plain.{plain_problem};
-ghost use Rattle.rooms_cmd.specs.Run.{SolveExplains, Stops, PlaceExplains};
+ghost use Rattle.problem_core.specs.Limits.{limit_of};
+ghost use Rattle.ctt_reader.specs.Promised.{IsInstance};
+ghost use Rattle.rooms_cmd.specs.Run.{SolveExplains, Stops, PlaceExplains, ProblemStops, IsProblem};
+ghost use Rattle.rooms_cmd.specs.Calls.{NoReadOfStepFailed};
 ghost use Rattle.timed_solution.specs.Times.{AreTimes};
 
 use crate::answer::{Answer, Stop};
@@ -26,13 +29,36 @@ pub fn solve<S: Shelf>(
 ) -> Result<Answer, Stop>
     ensures answers { IfOk result (λ a. SolveExplains (S.tells shelf.old) (S.held shelf.old) instance_name.now times_name.now (S.piece_faults shelf.old) (S.piece_faults shelf.new) a.text.items a.status) }
     ensures stops { IfErr result (Stops (SolveExplains (S.tells shelf.old) (S.held shelf.old) instance_name.now times_name.now (S.piece_faults shelf.old) (S.piece_faults shelf.new))) }
+    ensures calls { NoReadOfStepFailed (S.piece_faults shelf.old) (S.piece_faults shelf.new) result }
     ensures only { OnlyReads S.tells S.held S.piece_faults S.put_faults shelf.old shelf.new }
 {
     let instance = load_instance(alloc, shelf, instance_name)?;
     let times = load_times(alloc, shelf, &instance, times_name)?;
+    solve_loaded(alloc, &instance, &times)
+}
+
+/// The answer of the first choice for the instance and its times without measures, or the limit that their problem
+/// passes.
+fn solve_loaded(alloc: Global, instance: &Instance, times: &Times) -> Result<Answer, Stop>
+    requires instance { IsInstance instance.now }
+    requires times { AreTimes instance.now times.now.meetings }
+    ensures few { IfOk result (λ a. limit_of (plain_problem instance.now times.now) ≡ None) }
+    ensures answers { IfOk result (λ a. PlaceExplains instance.now times.now a.text.items a.status) }
+    ensures stops { IfErr result (Stops (ProblemStops instance.now times.now no_measures)) }
+{
+    let problem = plain_problem(alloc, instance, times)?;
+    place(alloc, instance, times, &problem)
+}
+
+/// The problem of the instance and its times without measures.
+fn plain_problem(alloc: Global, instance: &Instance, times: &Times) -> Result<Problem, Stop>
+    requires instance { IsInstance instance.now }
+    requires times { AreTimes instance.now times.now.meetings }
+    ensures problem { IfOk result (IsProblem instance.now times.now no_measures) }
+    ensures stops { IfErr result (Stops (ProblemStops instance.now times.now no_measures)) }
+{
     let measures = no_measures(alloc);
-    let problem = load_problem(alloc, &instance, &times, &measures)?;
-    place(alloc, &instance, &times, &problem)
+    load_problem(alloc, instance, times, &measures)
 }
 
 /// What a file without fields lists.

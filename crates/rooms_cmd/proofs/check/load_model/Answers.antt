@@ -1,5 +1,5 @@
-use Rattle.std.proofs.Common.{◌∙◌, rules, ap, sym, subst}
-use Rattle.std.proofs.lemmas.Result.{IfOk-weaker, IfErr-weaker}
+use Rattle.std.proofs.Common.{rules}
+use Rattle.std.proofs.lemmas.Result.{IfErr-weaker}
 use Rattle.rooms_cmd.proofs.CheckLaws.{three_stopping, model_stopping, is_model}
 use Rattle.rooms_cmd.proofs.check.load_model.Goals as goal
 
