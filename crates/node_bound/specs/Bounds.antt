@@ -39,8 +39,8 @@ floor_rows floor = if is_some floor then 1 else 0
 abbrev pub limit_of : Packing → Weights → Stage → Fixing → ℕ
 limit_of k w s f = 20 * (k.base_len + length s.cuts + (s.level - 1) + floor_rows w.floor + free_count k f) + 1000
 
--- Either it is decided; or a point shows that no leaf closes, or a number did not fit, or the pivots were
--- spent. The counts of numbers that did not fit and of steps are those before and after.
+-- Either it is decided; or a point meets every row, or a number did not fit, or the pivots were spent. The
+-- counts of numbers that did not fit and of steps are those before and after.
 abbrev pub Bounds : Facts → Weights → Stage → Fixing → ℕ → ℕ → ℕ → ℕ → Bounded → Type 0
 Bounds p w s f wides wides' steps steps' (Closed leaf) = Decides p w s f (Closed leaf)
 Bounds p w s f wides wides' steps steps' (Better a) = Decides p w s f (Better a)

@@ -1,5 +1,3 @@
-//! What a choice of rooms weighs at a level of an objective.
-
 ghost use Rattle.std.specs.Prelude.{◌≡◌, ◌≤◌, ◌^◌, ℕ, List, length, IfOk};
 ghost use Rattle.duality.specs.Sums.{IsWithin};
 ghost use Rattle.problem_core.specs.Choice.{IsLegal};
