@@ -77,7 +77,7 @@ fn is_multiplier(times: i128) -> bool
 }
 
 /// Whether the values are at most 10^12 in size.
-fn are_values(values: &[i64]) -> bool
+pub fn are_values(values: &[i64]) -> bool
     ensures { result ≡ list_all (is_small (10 ^ 12)) values.now }
 {
     for value in values {
@@ -88,7 +88,7 @@ fn are_values(values: &[i64]) -> bool
     true
 }
 
-fn is_value(value: i64) -> bool
+pub fn is_value(value: i64) -> bool
     ensures { result ≡ is_small (10 ^ 12) value }
 {
     value.unsigned_abs() <= 1_000_000_000_000

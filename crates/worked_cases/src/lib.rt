@@ -1,11 +1,13 @@
-//! Worked cases of fractions, problems, patterns, rows, certificates and limits, through the public calls of their crates:
-//! tests alone.
+//! Worked cases of fractions, problems, patterns, rows, nodes of a search, certificates and limits, through the
+//! public calls of their crates: tests alone.
 #![tactic(auto)]
 
 #[cfg(test)]
 mod certificate;
 #[cfg(test)]
 mod closing;
+#[cfg(test)]
+mod fixed;
 #[cfg(test)]
 mod fractions;
 #[cfg(test)]

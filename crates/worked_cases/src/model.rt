@@ -1,5 +1,6 @@
 use crate::certificate::{judge_floor_tree, judge_fronts, judge_text};
 use crate::closing::{judge_cuts, judge_small_leaves, judge_week};
+use crate::fixed::judge_fixed;
 use crate::packing::{judge_closed_once, judge_sizes};
 use crate::shape::{Shape, problem_of};
 use cert_checker::Reason;
@@ -23,6 +24,8 @@ pub enum Task<'a> {
     /// That a text is refused at a line, and why.
     Text(&'a [u8], u64, Reason),
     FloorTree,
+    /// What is known where no pattern is free.
+    Fixed,
 }
 
 fn model_of(alloc: Global, shape: &Shape) -> Result<Model, BuildFault> {
@@ -45,5 +48,6 @@ fn perform(rt: &impl Abort, alloc: Global, model: &Model, task: Task) -> Result<
         Task::Fronts(text) => judge_fronts(rt, alloc, model, text),
         Task::Text(text, line, reason) => judge_text(rt, alloc, model, text, line, reason),
         Task::FloorTree => judge_floor_tree(rt, alloc, model),
+        Task::Fixed => judge_fixed(rt, alloc, model),
     }
 }

@@ -1,5 +1,5 @@
 use Rattle.packing_model.specs.Built.{packing}
-use Rattle.ground_cases.proofs.fixed.known_at.Goals as goal
+use Rattle.worked_cases.proofs.fixed.known_at.Goals as goal
 
 pub fix_each-requires : goal.fix_each-requires
 fix_each-requires c = c.new-walk.ensures.walk (packing c.args.model.now)
