@@ -1,0 +1,132 @@
+ghost use Rattle.std.specs.Prelude.{◌≡◌, ◌≤◌, ◌<◌, ◌+◌, ◌^◌, ℕ, length};
+ghost use Rattle.exact_simplex.specs.Answer.{Answers, Concludes};
+ghost use Rattle.exact_simplex.specs.Drive.{IsOpen};
+ghost use Rattle.exact_simplex.specs.Ends.{Ends};
+ghost use Rattle.exact_simplex.specs.Final.{Describes, AreSettled};
+ghost use Rattle.exact_simplex.specs.Progress.{IsProgress, IsRow, size_of};
+ghost use Rattle.exact_simplex.specs.Task.{IsTask, pivot_limit};
+
+use crate::answer::{best, empty, ray};
+use crate::build::build;
+use crate::dense::{add_times, append_number};
+use crate::drive::{Driven, drive};
+use crate::fault::Fault;
+use crate::force::{Blocked, row_of};
+use crate::progress::{Progress, Task};
+use crate::rows::force_rows;
+use crate::sparse::Entry;
+use crate::start::start;
+use crate::task::{Lp, LpAnswer};
+use crate::values::values_of_columns;
+use exact_num::{Arith, Memory, Steps};
+use std::alloc::Global;
+use std::sync::ledger::Ledger;
+
+/// The greatest number of pivots of a call.
+fn limit_of(lp: &Lp) -> u64
+    requires { IsTask lp.now }
+    ensures { result ≡ pivot_limit lp.now }
+{
+    20 * (lp.rows.len() as u64 + u64::from(lp.columns)) + 1000
+}
+
+/// The point of the last basis and the multipliers that show that it is best.
+fn best_point<A: Arith>(
+    alloc: Global,
+    arith: &mut A,
+    lp: &Lp,
+    task: &Task<A::Num>,
+    progress: &Progress<A::Num>,
+    y: &[A::Num],
+) -> Result<LpAnswer, Fault>
+{
+    let tableau = &progress.tableau;
+    let x = values_of_columns(alloc, arith, task.columns, &tableau.basis, &tableau.point)?;
+    best(alloc, arith, lp, &x, &y[..lp.rows.len()])
+}
+
+/// How the columns move where a variable grows by 1 that no row stops.
+fn direction<A: Arith>(
+    alloc: Global,
+    arith: &mut A,
+    task: &Task<A::Num>,
+    progress: &Progress<A::Num>,
+    entering: usize,
+    made: &[Entry<A::Num>],
+) -> Result<Vec<A::Num>, Fault>
+{
+    let zero = arith.from_int(0)?;
+    let one = arith.from_int(1)?;
+    let minus = arith.from_int(-1)?;
+    let mut moves = vec![in alloc; zero; task.sides.len()]?;
+    add_times(arith, &mut moves, minus, made)?;
+    append_number(&mut moves, one)?;
+    let mut variables = Vec::from_slice(alloc, &progress.tableau.basis)?;
+    append_number(&mut variables, entering)?;
+    values_of_columns(alloc, arith, task.columns, &variables, &moves)
+}
+
+/// Drives the gain up from a point that meets the rows.
+fn raise_gain<A: Arith, L: Ledger>(
+    alloc: Global,
+    arith: &mut A,
+    steps: &mut Steps<L>,
+    lp: &Lp,
+    task: &Task<A::Num>,
+    progress: &mut Progress<A::Num>,
+    limit: u64,
+) -> Result<LpAnswer, Fault>
+{
+    let row = lp.rows.len() as u32;
+    let mut y = row_of(alloc, arith, &progress.tableau.inverse, row)?;
+    match drive(
+        alloc, arith, steps, task, progress, &mut y, row, true, limit,
+    )? {
+        Driven::Left => unreachable!(),
+        Driven::Stuck => best_point(alloc, arith, lp, task, progress, &y),
+        Driven::Open { entering, made } => {
+            let x = direction(alloc, arith, task, progress, entering, made.as_slice())?;
+            ray(alloc, arith, lp, &x)
+        }
+        Driven::Stalled => Ok(LpAnswer::Stalled {
+            pivots: progress.pivots,
+        }),
+    }
+}
+
+/// Solves a task, or says why a step has no answer.
+fn solve<A: Arith, L: Ledger>(
+    alloc: Global,
+    lp: &Lp,
+    arith: &mut A,
+    steps: &mut Steps<L>,
+) -> Result<LpAnswer, Fault>
+{
+    let task = build(alloc, arith, lp)?;
+    let mut progress = start(alloc, arith, &task)?;
+    let limit = limit_of(lp);
+    match force_rows(alloc, arith, steps, lp, &task, &mut progress, limit)? {
+        None => raise_gain(alloc, arith, steps, lp, &task, &mut progress, limit),
+        Some(Blocked::Empty(y)) => empty(alloc, arith, lp, &y[..lp.rows.len()]),
+        Some(Blocked::Stalled) => Ok(LpAnswer::Stalled {
+            pivots: progress.pivots,
+        }),
+    }
+}
+
+/// The greatest gain over the points that are not negative and meet each row.
+pub fn solve_lp<A: Arith, L: Ledger>(
+    alloc: Global,
+    lp: &Lp,
+    arith: &mut A,
+    steps: &mut Steps<L>,
+) -> Result<LpAnswer, Memory>
+    requires { IsTask lp.now }
+    ensures { Answers lp.now (A.wides arith.old) (A.wides arith.new) steps.old steps.new result }
+{
+    match solve(alloc, lp, arith, steps) {
+        Ok(answer) => Ok(answer),
+        Err(Fault::Wide) => Ok(LpAnswer::Wide),
+        Err(Fault::Memory) => Err(Memory),
+    }
+}

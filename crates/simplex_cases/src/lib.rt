@@ -1,0 +1,5 @@
+//! Tests of the exact simplex on small tasks.
+#![tactic(auto)]
+
+#[cfg(test)]
+mod answers;
