@@ -1,14 +1,18 @@
-ghost use Rattle.std.specs.Prelude.{◌≡◌, ◌≤◌, ◌<◌, ◌+◌, ◌^◌, ℕ, length};
-ghost use Rattle.exact_simplex.specs.Answer.{Answers, Concludes};
+ghost use Rattle.std.specs.Prelude.{◌≡◌, ◌≤◌, ◌<◌, ◌+◌, ◌^◌, ℕ, length, true};
+ghost use Rattle.exact_simplex.specs.Dense.{num};
+ghost use Rattle.exact_simplex.specs.Enter.{IsExtreme};
+ghost use Rattle.exact_simplex.specs.Ray.{IsDirection};
+ghost use Rattle.exact_simplex.specs.Sparse.{PlacesBelow};
+ghost use Rattle.exact_simplex.specs.Answer.{Answers, AnswersBest, Concludes, ConcludesAfter};
 ghost use Rattle.exact_simplex.specs.Drive.{IsOpen};
 ghost use Rattle.exact_simplex.specs.Ends.{Ends};
 ghost use Rattle.exact_simplex.specs.Final.{Describes, AreSettled};
-ghost use Rattle.exact_simplex.specs.Progress.{IsProgress, IsRow, size_of};
+ghost use Rattle.exact_simplex.specs.Progress.{IsProgress, IsRow, size_of, IsTaskLists};
 ghost use Rattle.exact_simplex.specs.Task.{IsTask, pivot_limit};
 
 use crate::answer::{best, empty, ray};
 use crate::build::build;
-use crate::dense::{add_times, append_number};
+use crate::dense::{add_times, append_number, repeated};
 use crate::drive::{Driven, drive};
 use crate::fault::Fault;
 use crate::force::{Blocked, row_of};
@@ -39,6 +43,12 @@ fn best_point<A: Arith>(
     progress: &Progress<A::Num>,
     y: &[A::Num],
 ) -> Result<LpAnswer, Fault>
+    requires describes { Describes A.Num.value lp.now task.now }
+    requires progress { IsProgress A.Num.value task.now progress.now }
+    requires settled { AreSettled lp.now progress.now.states.items }
+    requires row { IsRow A.Num.value (size_of task.now) progress.now.tableau (length lp.now.rows) y.now }
+    requires extreme { IsExtreme A.Num.value task.now progress.now.states.items y.now true }
+    ensures { Ends (A.wides arith.old) (A.wides arith.new) (AnswersBest lp.now) result }
 {
     let tableau = &progress.tableau;
     let x = values_of_columns(alloc, arith, task.columns, &tableau.basis, &tableau.point)?;
@@ -54,11 +64,14 @@ fn direction<A: Arith>(
     entering: usize,
     made: &[Entry<A::Num>],
 ) -> Result<Vec<A::Num>, Fault>
+    requires made { PlacesBelow (size_of task.now) made.now }
+    requires basis { length progress.now.tableau.basis.items ≡ size_of task.now }
+    ensures { Ends (A.wides arith.old) (A.wides arith.new) (λ v. IsDirection A.Num.value task.now progress.now entering made.now v.items) result }
 {
     let zero = arith.from_int(0)?;
     let one = arith.from_int(1)?;
     let minus = arith.from_int(-1)?;
-    let mut moves = vec![in alloc; zero; task.sides.len()]?;
+    let mut moves = repeated(alloc, zero, task.sides.len())?;
     add_times(arith, &mut moves, minus, made)?;
     append_number(&mut moves, one)?;
     let mut variables = Vec::from_slice(alloc, &progress.tableau.basis)?;
@@ -76,6 +89,13 @@ fn raise_gain<A: Arith, L: Ledger>(
     progress: &mut Progress<A::Num>,
     limit: u64,
 ) -> Result<LpAnswer, Fault>
+    requires task { IsTask lp.now }
+    requires limit { limit ≡ pivot_limit lp.now }
+    requires describes { Describes A.Num.value lp.now task.now }
+    requires progress { IsProgress A.Num.value task.now progress.old }
+    requires settled { AreSettled lp.now progress.old.states.items }
+    requires within { progress.old.pivots ≤ limit }
+    ensures { Ends (A.wides arith.old) (A.wides arith.new) (ConcludesAfter lp.now progress.old.pivots steps.old steps.new) result }
 {
     let row = lp.rows.len() as u32;
     let mut y = row_of(alloc, arith, &progress.tableau.inverse, row)?;
@@ -101,6 +121,8 @@ fn solve<A: Arith, L: Ledger>(
     arith: &mut A,
     steps: &mut Steps<L>,
 ) -> Result<LpAnswer, Fault>
+    requires { IsTask lp.now }
+    ensures { Ends (A.wides arith.old) (A.wides arith.new) (Concludes lp.now steps.old steps.new) result }
 {
     let task = build(alloc, arith, lp)?;
     let mut progress = start(alloc, arith, &task)?;

@@ -7,7 +7,7 @@ ghost use Rattle.exact_simplex.specs.declared.fault.Fault.TheVariants as fault;
 
 use crate::basis::Tableau;
 use crate::build::append_units;
-use crate::dense::append_number;
+use crate::dense::{append_number, repeated};
 use crate::fault::Fault;
 use crate::progress::{Progress, Task};
 use crate::state::RowState;
@@ -45,7 +45,7 @@ pub(crate) fn start<A: Arith>(
     append_units(alloc, &mut inverse, one, rows)?;
     let point = Vec::from_slice(alloc, &task.sides)?;
     let tie = Vec::from_slice(alloc, &task.sides)?;
-    let states = vec![in alloc; RowState::Waiting; rows]?;
+    let states = repeated(alloc, RowState::Waiting, rows)?;
     let tableau = Tableau {
         basis,
         inverse,

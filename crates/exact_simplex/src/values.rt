@@ -2,6 +2,7 @@ ghost use Rattle.std.specs.Prelude.{◌≡◌, ◌≤◌, ◌<◌, ◌+◌, ◌^
 ghost use Rattle.exact_simplex.specs.Ends.{Ends};
 ghost use Rattle.exact_simplex.specs.Values.{AddsValue, AreValues};
 
+use crate::dense::repeated;
 use crate::fault::Fault;
 use exact_num::Arith;
 use std::alloc::Global;
@@ -34,7 +35,7 @@ pub(crate) fn values_of_columns<A: Arith>(
     ensures { Ends (A.wides arith.old) (A.wides arith.new) (λ v. AreValues A.Num.value columns variables.now numbers.now v.items) result }
 {
     let zero = arith.from_int(0)?;
-    let mut values = vec![in alloc; zero; columns]?;
+    let mut values = repeated(alloc, zero, columns)?;
     for p in 0..variables.len() {
         add_value(arith, &mut values, variables[p], numbers[p])?;
     }
