@@ -1,7 +1,8 @@
 -- The answers of a call from the end of its drives.
-use Rattle.std.proofs.Common.{ℕ, ◌≡◌, ◌+◌, ◌<◌, ◌≤◌, sym, ◌∙◌, ap, ap₂, subst, List, length, get_or, arith, refl, zero, suc, [], ◌∷◌, take, true}
+use Rattle.std.proofs.Common.{ℕ, ◌≡◌, ◌+◌, ◌<◌, ◌≤◌, sym, ◌∙◌, ap, ap₂, subst, List, length, get_or, arith, refl, zero, suc, [], ◌∷◌, ◌++◌, take, true, replicate, length-append, Option, Some, None, Vec, Global}
+use Rattle.std.proofs.lemmas.List.{get_or-replicate, length-replicate}
 use Rattle.exact_num.specs.Q.{ℚ}
-use Rattle.exact_num.specs.Ops.{zero_ℚ, neg_ℚ, one_ℚ, ◌*ℚ◌}
+use Rattle.exact_num.specs.Ops.{zero_ℚ, neg_ℚ, one_ℚ, ◌+ℚ◌, ◌*ℚ◌, zero-+ℚ, neg-*ℚ, one-*ℚ}
 use Rattle.exact_num.specs.Sums.{sum_ℚ, sum_ℚ-same}
 use Rattle.exact_num.specs.Order.{◌≤ℚ◌, ◌<ℚ◌}
 use Rattle.exact_num.specs.Whole.{int_ℚ}
@@ -13,8 +14,13 @@ use Rattle.exact_simplex.specs.declared.task.LpAnswer.{LpAnswer}
 use Rattle.exact_simplex.specs.declared.task.LpAnswer.TheVariants as answer
 use Rattle.exact_simplex.specs.declared.drive.Driven.{Driven}
 use Rattle.exact_simplex.specs.declared.drive.Driven.TheVariants as driven
-use Rattle.exact_simplex.specs.Dense.{num}
+use Rattle.exact_simplex.specs.Dense.{num, num-get, Added}
 use Rattle.exact_simplex.specs.Enter.{IsExtreme}
+use Rattle.exact_simplex.specs.Sparse.{at}
+use Rattle.exact_simplex.specs.declared.force.Blocked.{Blocked}
+use Rattle.exact_simplex.specs.declared.force.Blocked.TheVariants as blocked
+use Rattle.exact_simplex.specs.Rows.{ForcesAll}
+use Rattle.exact_simplex.specs.declared.state.RowState.TheVariants as state
 use Rattle.exact_simplex.specs.Drive.{Keeps, IsThere, IsGone, IsOpen, EndsAt}
 use Rattle.exact_simplex.specs.Empty.{ShowsEmptyFraction}
 use Rattle.exact_simplex.specs.Final.{Describes, AreSettled, optimum}
@@ -26,6 +32,7 @@ use Rattle.exact_simplex.specs.Tableau.{basis_of, point_of}
 use Rattle.exact_simplex.specs.Task.{int_at, cell, row_at, pivot_limit}
 use Rattle.exact_simplex.specs.Answer.{AnswersBest, AnswersEmpty, AnswersRay, Concludes, ConcludesAfter}
 use Rattle.exact_simplex.specs.Values.{AreValues}
+use Rattle.exact_simplex.proofs.ListLemmas.{get_or-end, get_or-front, num-end, num-front}
 use Rattle.exact_simplex.proofs.RayLemmas.{ray_shows, ray_same}
 
 -- ---- the same numbers
@@ -96,3 +103,67 @@ ray_concludes lp (answer.Best _ _ _ _) steps steps' l h = absurd h
 ray_concludes lp (answer.Empty _) steps steps' l h = absurd h
 ray_concludes lp (answer.Stalled _) steps steps' l h = absurd h
 ray_concludes lp answer.Wide steps steps' l h = absurd h
+
+-- ---- the direction
+
+-- the basis with the variable that grows, and how the places fall
+pub direction_from : {N : Type 0} (value : N → ℚ) (task : Task N) (p : Progress N) (entering : ℕ) (made : List (Entry N)) (zeros moved numbers values : List N) (variables : List ℕ) (none one minus : N)
+    → length p.tableau.basis.items ≡ size_of task → value none ≡ zero_ℚ → value one ≡ one_ℚ → value minus ≡ neg_ℚ one_ℚ
+    → zeros ≡ replicate (size_of task) none → length moved ≡ length zeros → Added value zeros (value minus) made moved → numbers ≡ moved ++ one ∷ [] → variables ≡ p.tableau.basis.items ++ entering ∷ []
+    → AreValues value task.columns variables numbers values → IsDirection value task p entering made values
+direction_from value task p entering made zeros moved numbers values variables none one minus size is_zero is_one is_minus all same_length added numbers_are variables_are is = record {
+  variables = λ q. get_or variables q 0;
+  steps = num value numbers;
+  one_each = is.one_each;
+  same = λ v l. is.same v l ∙ ap (λ k. spread (λ q. get_or variables q 0) (num value numbers) k v) (ap length variables_are ∙ length-append p.tableau.basis.items (entering ∷ []) ∙ ap (λ k. k + 1) size);
+  places = λ q l. ap (λ xs. get_or xs q 0) variables_are ∙ get_or-front p.tableau.basis.items entering 0 q (let e = size in omega arith);
+  last = ap (λ xs. get_or xs (size_of task) 0) variables_are ∙ ap (λ k. get_or (p.tableau.basis.items ++ entering ∷ []) k 0) (sym size) ∙ get_or-end p.tableau.basis.items entering 0;
+  falls = λ q l.
+      let m = at value made q in
+      ap (λ xs. num value xs q) numbers_are ∙ num-front value moved one q (let e = moved_length in omega arith) ∙ added q (let e = zeros_length in omega arith)
+      ∙ ap₂ (λ a b. a +ℚ b *ℚ m)
+      (ap (λ xs. num value xs q) all ∙ num-get value (replicate (size_of task) none) q none (let e = length-replicate (size_of task) none in omega arith) (sym (get_or-replicate (size_of task) q none none l)) ∙ is_zero) is_minus
+      ∙ zero-+ℚ (neg_ℚ one_ℚ *ℚ m) ∙ neg-*ℚ one_ℚ m ∙ ap neg_ℚ (one-*ℚ m);
+  one = ap (λ xs. num value xs (size_of task)) numbers_are ∙ ap (num value (moved ++ one ∷ [])) (sym moved_length) ∙ num-end value moved one ∙ is_one;
+}
+  where
+    zeros_length : length zeros ≡ size_of task
+    zeros_length = ap length all ∙ length-replicate (size_of task) none
+
+    moved_length : length moved ≡ size_of task
+    moved_length = same_length ∙ zeros_length
+
+pub ray_from : {N : Type 0} (value : N → ℚ) (lp : Lp) (task : Task N) (p : Progress N) (y : List N) (entering : ℕ) (made : List (Entry N)) (values : List N) → Describes value lp task → IsProgress value task p → AreSettled lp p.states.items
+    → IsRow value (size_of task) p.tableau (length lp.rows) y → IsOpen value task p y true entering made → IsDirection value task p entering made values → IsRayFraction lp (num value values)
+ray_from value lp task p y entering made values describes is settled row free moves =
+    ray_same lp (spread moves.variables moves.steps (size_of task + 1)) (num value values) (λ j l. moves.same j (let c = describes.columns in omega arith))
+    (ray_shows value lp task p y entering made moves.variables moves.steps describes is settled row free moves.places moves.last moves.falls moves.one)
+
+-- ---- the last drive
+
+-- the slack of the gain never leaves
+pub gain_stays : {N : Type 0} (value : N → ℚ) (lp : Lp) (task : Task N) (limit : ℕ) (old new : Progress N) (y : List N) (steps steps' : ℕ) (d : Driven N) → Describes value lp task → AreSettled lp old.states.items
+    → Keeps value task limit old new steps steps' → d ≡ driven.Left → EndsAt value task (length lp.rows) true limit old new y d → ⊥
+gain_stays value lp task limit old new y steps steps' d describes settled keeps left ended =
+    let m : length lp.rows < size_of task = let e = describes.size in omega arith in
+    subst (λ e. EndsAt value task (length lp.rows) true limit old new y e) left ended (length lp.rows) m (keeps.progress.feasible.home (length lp.rows) m (ap (λ v. get_or v.items (length lp.rows) state.Waiting) keeps.states ∙ settled.gain))
+
+pub settled_after : {N : Type 0} (value : N → ℚ) (lp : Lp) (task : Task N) (limit : ℕ) (old new : Progress N) (steps steps' : ℕ) → AreSettled lp old.states.items → Keeps value task limit old new steps steps' → AreSettled lp new.states.items
+settled_after value lp task limit old new steps steps' settled keeps = subst (λ v. AreSettled lp v.items) (sym keeps.states) settled
+
+pub stuck_gain : {N : Type 0} (value : N → ℚ) (lp : Lp) (task : Task N) (limit : ℕ) (old new : Progress N) (y : List N) (d : Driven N) → d ≡ driven.Stuck → EndsAt value task (length lp.rows) true limit old new y d
+    → IsRow value (size_of task) new.tableau (length lp.rows) y × IsExtreme value task new.states.items y true
+stuck_gain value lp task limit old new y d is end = let e = subst (λ x. EndsAt value task (length lp.rows) true limit old new y x) is end in (e.0.is_row, e.1)
+
+pub open_gain : {N : Type 0} (value : N → ℚ) (lp : Lp) (task : Task N) (limit : ℕ) (old new : Progress N) (y : List N) (d : Driven N) (entering : ℕ) (made : List (Entry N)) → d ≡ driven.Open entering made → EndsAt value task (length lp.rows) true limit old new y d
+    → IsRow value (size_of task) new.tableau (length lp.rows) y × IsOpen value task new y true entering made
+open_gain value lp task limit old new y d entering made is end = let e = subst (λ x. EndsAt value task (length lp.rows) true limit old new y x) is end in (e.0.is_row, e.1)
+
+pub stalled_gain : {N : Type 0} (value : N → ℚ) (lp : Lp) (task : Task N) (limit : ℕ) (old new : Progress N) (y : List N) (d : Driven N) → d ≡ driven.Stalled → EndsAt value task (length lp.rows) true limit old new y d → new.pivots ≡ limit
+stalled_gain value lp task limit old new y d is end = (subst (λ x. EndsAt value task (length lp.rows) true limit old new y x) is end).1
+
+-- ---- the rows
+
+pub forces_empty : {N : Type 0} (value : N → ℚ) (lp : Lp) (task : Task N) (limit : ℕ) (old new : Progress N) (steps steps' : ℕ) (o : Option (Blocked N)) (h : Blocked N) (z : Vec N Global) → o ≡ Some h → h ≡ blocked.Empty z
+    → ForcesAll value lp task limit old new steps steps' o → ShowsEmptyFraction lp (num value z.items)
+forces_empty value lp task limit old new steps steps' o h z is shows ends = (subst (λ q. ForcesAll value lp task limit old new steps steps' q) (is ∙ ap Some shows) ends).1
