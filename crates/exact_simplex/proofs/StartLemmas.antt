@@ -42,7 +42,7 @@ waiting_all n i = elim (lt_or_le i n) [
 ]
 
 pub starts_from : {N : Type 0} (value : N → ℚ) (task : Task N) (p : Progress N) (one : N) → size_of task ≤ 2 ^ 32 → HasSlacks (size_of task) task.columns (column_of value task)
-    → value one ≡ one_ℚ → AreSlacks task.columns (size_of task) p.tableau.basis.items → HasUnits one (size_of task) [] p.tableau.inverse.items → p.tableau.point.items ≡ task.sides.items → p.tableau.tie.items ≡ task.sides.items
+    → value one ≡ one_ℚ → AreSlacks task.columns (size_of task) p.tableau.basis.items → HasUnits one (size_of task) [] p.tableau.inverse.items → p.tableau.point.items ≡ task.sides.items → length p.tableau.tie.items ≡ size_of task
     → p.states.items ≡ replicate (size_of task) state.Waiting → p.pivots ≡ 0 → Starts value task p
 starts_from value task p one few slacks is_one basis units point tie states none = record {
   progress = record {
@@ -51,7 +51,7 @@ starts_from value task p one few slacks is_one basis units point tie states none
       basis_length = basis.one_each;
       inverse_length = let e = units.count_is in omega arith;
       point_length = ap length point;
-      tie_length = ap length tie;
+      tie_length = tie;
       rises = λ k l. subst (λ xs. Rises 0 (size_of task) xs) (sym (ap (list_at p.tableau.inverse.items) (from_zero k) ∙ units.unit k (let e = units.count_is in omega arith))) (omega arith, let e = units.count_is in omega arith, tt);
     };
     states_length = ap length states ∙ length-replicate (size_of task) state.Waiting;

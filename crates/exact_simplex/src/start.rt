@@ -27,6 +27,20 @@ fn slacks(alloc: Global, first: usize, rows: usize) -> Result<Vec<usize>, Fault>
     Ok(basis)
 }
 
+/// Sides that break ties: whole numbers from 1 to 1,024 in no order that the task knows.
+fn tie_sides<A: Arith>(alloc: Global, arith: &mut A, rows: usize) -> Result<Vec<A::Num>, Fault>
+    requires { rows ≤ 2 ^ 32 }
+    ensures { Ends (A.wides arith.old) (A.wides arith.new) (λ v. length v.items ≡ rows) result }
+{
+    let mut ties = Vec::new(alloc);
+    for i in 0..rows {
+        let mixed = (i as u64 + 1) * 2_654_435_761 % 4_294_967_296;
+        let side = arith.from_int(i128::from(mixed / 4_194_304 + 1))?;
+        append_number(&mut ties, side)?;
+    }
+    Ok(ties)
+}
+
 /// The first basis: the slacks, each at the place of its row; no row is in force.
 pub(crate) fn start<A: Arith>(
     alloc: Global,
@@ -44,7 +58,7 @@ pub(crate) fn start<A: Arith>(
     let mut inverse = Vec::new(alloc);
     append_units(alloc, &mut inverse, one, rows)?;
     let point = Vec::from_slice(alloc, &task.sides)?;
-    let tie = Vec::from_slice(alloc, &task.sides)?;
+    let tie = tie_sides(alloc, arith, rows)?;
     let states = repeated(alloc, RowState::Waiting, rows)?;
     let tableau = Tableau {
         basis,

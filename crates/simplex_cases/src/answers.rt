@@ -1,4 +1,4 @@
-use crate::{Lp, LpAnswer, LpRow, RowKind, solve_lp};
+use exact_simplex::{Lp, LpAnswer, LpRow, RowKind, solve_lp};
 use exact_num::{Arith, Exact64, Exact128, Refusing, Steps};
 use std::alloc::Global;
 use std::marker::Brand;
