@@ -1,5 +1,5 @@
 -- The answers of a call from the end of its drives.
-use Rattle.std.proofs.Common.{ℕ, ◌≡◌, ◌+◌, ◌<◌, ◌≤◌, sym, ◌∙◌, ap, ap₂, subst, List, length, get_or, arith, refl, zero, suc, [], ◌∷◌, ◌++◌, take, true, replicate, length-append, Option, Some, None, Vec, Global}
+use Rattle.std.proofs.Common.{ℕ, ◌≡◌, ◌+◌, ◌<◌, ◌≤◌, sym, ◌∙◌, ap, ap₂, subst, List, length, get_or, arith, refl, zero, suc, [], ◌∷◌, ◌++◌, take, true, replicate, length-append, Option, Some, Vec, Global}
 use Rattle.std.proofs.lemmas.List.{get_or-replicate, length-replicate}
 use Rattle.exact_num.specs.Q.{ℚ}
 use Rattle.exact_num.specs.Ops.{zero_ℚ, neg_ℚ, one_ℚ, ◌+ℚ◌, ◌*ℚ◌, zero-+ℚ, neg-*ℚ, one-*ℚ}
@@ -14,23 +14,25 @@ use Rattle.exact_simplex.specs.declared.task.LpAnswer.{LpAnswer}
 use Rattle.exact_simplex.specs.declared.task.LpAnswer.TheVariants as answer
 use Rattle.exact_simplex.specs.declared.drive.Driven.{Driven}
 use Rattle.exact_simplex.specs.declared.drive.Driven.TheVariants as driven
-use Rattle.exact_simplex.specs.Dense.{num, num-get, Added}
+use Rattle.exact_simplex.specs.Dense.{num, Added}
+use Rattle.exact_simplex.proofs.DenseLaws.{num-get}
 use Rattle.exact_simplex.specs.Enter.{IsExtreme}
 use Rattle.exact_simplex.specs.Sparse.{at}
 use Rattle.exact_simplex.specs.declared.force.Blocked.{Blocked}
 use Rattle.exact_simplex.specs.declared.force.Blocked.TheVariants as blocked
 use Rattle.exact_simplex.specs.Rows.{ForcesAll}
 use Rattle.exact_simplex.specs.declared.state.RowState.TheVariants as state
-use Rattle.exact_simplex.specs.Drive.{Keeps, IsThere, IsGone, IsOpen, EndsAt}
+use Rattle.exact_simplex.specs.Drive.{Keeps, IsOpen, EndsAt}
 use Rattle.exact_simplex.specs.Empty.{ShowsEmptyFraction}
-use Rattle.exact_simplex.specs.Final.{Describes, AreSettled, optimum}
+use Rattle.exact_simplex.specs.Final.{Describes, AreSettled}
+use Rattle.exact_simplex.proofs.FinalLaws.{optimum}
 use Rattle.exact_simplex.specs.Point.{spread}
 use Rattle.exact_simplex.specs.Progress.{size_of, IsProgress, IsRow}
 use Rattle.exact_simplex.specs.Ray.{IsRayFraction, IsDirection}
 use Rattle.exact_simplex.specs.Scaled.{IsOptimum, MeetsFraction, IsMultiplierFraction}
 use Rattle.exact_simplex.specs.Tableau.{basis_of, point_of}
 use Rattle.exact_simplex.specs.Task.{int_at, cell, row_at, pivot_limit}
-use Rattle.exact_simplex.specs.Answer.{AnswersBest, AnswersEmpty, AnswersRay, Concludes, ConcludesAfter}
+use Rattle.exact_simplex.specs.Answer.{AnswersBest, AnswersEmpty, AnswersRay, Concludes}
 use Rattle.exact_simplex.specs.Values.{AreValues}
 use Rattle.exact_simplex.proofs.ListLemmas.{get_or-end, get_or-front, num-end, num-front}
 use Rattle.exact_simplex.proofs.RayLemmas.{ray_shows, ray_same}

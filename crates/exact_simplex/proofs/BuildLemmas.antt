@@ -1,5 +1,5 @@
 -- The columns of a task are filled row by row.
-use Rattle.std.proofs.Common.{ℕ, ◌≡◌, ◌≢◌, ◌+◌, ◌-◌, ◌<◌, ◌≤◌, sym, ◌∙◌, ap, ap₂, subst, inl, inr, ◌⊎◌, zero, suc, refl, List, [], ◌∷◌, ◌++◌, length, length-append, get_or, arith, ℤ, pos, ◌+ℤ◌, ◌==◌, Bool, true, false}
+use Rattle.std.proofs.Common.{ℕ, ◌≡◌, ◌≢◌, ◌+◌, ◌-◌, ◌<◌, ◌≤◌, sym, ◌∙◌, ap, ap₂, subst, inl, inr, ◌⊎◌, refl, List, [], ◌∷◌, ◌++◌, length, length-append, get_or, arith, ℤ, pos, ◌+ℤ◌, ◌==◌, Bool, true, false}
 use Rattle.std.proofs.lemmas.List.{get_or_past}
 use Rattle.std.proofs.Math.Decide.{ℕ_discrete}
 use Rattle.numbers.specs.Sums.{picked}
@@ -10,13 +10,13 @@ use Rattle.exact_simplex.specs.declared.sparse.Entry.{Entry}
 use Rattle.exact_simplex.specs.declared.progress.Task.{Task}
 use Rattle.exact_simplex.specs.declared.task.Lp.{Lp}
 use Rattle.exact_simplex.specs.declared.task.LpRow.{LpRow}
-use Rattle.exact_simplex.specs.Sparse.{at, at_place, at_place-same, at_place-other, PlacesBelow}
-use Rattle.exact_simplex.specs.Dense.{num, num-get}
-use Rattle.exact_simplex.specs.Inverse.{inv_of, list_at, get_or-any}
-use Rattle.exact_simplex.specs.Point.{HasSlacks}
-use Rattle.exact_simplex.specs.Progress.{size_of, column_of, IsTaskLists}
+use Rattle.exact_simplex.specs.Sparse.{at, at_place, PlacesBelow}
+use Rattle.exact_simplex.proofs.SparseLaws.{at_place-same, at_place-other}
+use Rattle.exact_simplex.specs.Dense.{num}
+use Rattle.exact_simplex.specs.Inverse.{inv_of, list_at}
+use Rattle.exact_simplex.specs.Progress.{size_of, column_of}
 use Rattle.exact_simplex.specs.Task.{coefficient, ColumnsBelow, IsTask, no_row, int_at, row_at}
-use Rattle.exact_simplex.specs.Build.{RowsBelow, AllBelow, AddsEntry, AddsRow, AreEmpty, HasUnits, unit_entry, AddsFirst, AddsRows, AddsGains, AddsGainsTo, FillsColumns, AreFirstSides, AreSides}
+use Rattle.exact_simplex.specs.Build.{RowsBelow, AllBelow, AddsEntry, AddsRow, AreEmpty, HasUnits, unit_entry, AddsFirst, AddsGainsTo, FillsColumns, AreFirstSides, AreSides}
 use Rattle.exact_simplex.specs.Final.{Describes}
 use Rattle.exact_simplex.proofs.ListLemmas.{get_or-end, get_or-front, num-end, num-front}
 

@@ -1,5 +1,5 @@
 -- How a row comes in force.
-use Rattle.std.proofs.Common.{ℕ, ◌≡◌, ◌≢◌, ◌+◌, ◌<◌, ◌≤◌, sym, ◌∙◌, ap, subst, List, [], ◌∷◌, ◌++◌, length, get_or, set, Option, Some, None, Bool, true, false, arith, refl, unwrap_or, length-set, get_or-set_same, get_or-set_other, length-append}
+use Rattle.std.proofs.Common.{ℕ, ◌≡◌, ◌≢◌, ◌+◌, ◌<◌, ◌≤◌, sym, ◌∙◌, ap, subst, List, [], ◌∷◌, ◌++◌, length, get_or, set, Option, Some, None, Bool, true, false, arith, unwrap_or, length-set, get_or-set_same, get_or-set_other, length-append}
 use Rattle.std.proofs.Math.Decide.{ℕ_discrete}
 use Rattle.exact_num.specs.Q.{ℚ}
 use Rattle.exact_num.specs.Ops.{zero_ℚ, one_ℚ, neg_ℚ, ◌*ℚ◌, neg-*ℚ, one-*ℚ}
@@ -16,17 +16,19 @@ use Rattle.exact_simplex.specs.declared.state.RowState.TheVariants as state
 use Rattle.exact_simplex.specs.declared.task.RowKind.{RowKind}
 use Rattle.exact_simplex.specs.declared.task.RowKind.TheVariants as kind
 use Rattle.exact_simplex.specs.Sparse.{at, NumberAt}
-use Rattle.exact_simplex.specs.Dense.{num, num-get}
+use Rattle.exact_simplex.specs.Dense.{num}
+use Rattle.exact_simplex.proofs.DenseLaws.{num-get}
 use Rattle.exact_simplex.specs.Inverse.{inv_of, list_at}
 use Rattle.exact_simplex.specs.Enter.{Helps, IsExtreme}
 use Rattle.exact_simplex.specs.States.{Okay, Limits, state_of, way, in_force}
 use Rattle.exact_simplex.specs.Basis.{IsBasis}
-use Rattle.exact_simplex.specs.Optimum.{signed}
-use Rattle.exact_simplex.specs.Simplex.{IsFeasible, feasible_settled, state_of-slack}
+use Rattle.exact_simplex.specs.Simplex.{IsFeasible}
+use Rattle.exact_simplex.proofs.SimplexLaws.{feasible_settled, state_of-slack}
 use Rattle.exact_simplex.specs.Tableau.{HasShape, basis_of, inverse_of, point_of}
 use Rattle.exact_simplex.specs.Progress.{size_of, column_of, side_of, IsTaskLists, IsProgress, IsRow}
-use Rattle.exact_simplex.specs.Drive.{alone, Keeps, IsThere, EndsAt, open_blocked}
-use Rattle.exact_simplex.specs.Force.{IsRowOf, SuitsAt, Settles, Counts, IsInForce, GoesFor, SignedTo, IsStuck, ShowsNone, SettlesOrShows, ForcesTo}
+use Rattle.exact_simplex.specs.Drive.{Keeps, IsThere, EndsAt}
+use Rattle.exact_simplex.proofs.DriveLaws.{alone, open_blocked}
+use Rattle.exact_simplex.specs.Force.{IsRowOf, SuitsAt, Settles, Counts, IsInForce, SignedTo, IsStuck, SettlesOrShows, ForcesTo}
 use Rattle.exact_simplex.proofs.ListLemmas.{num-end, num-front, set_twice}
 
 -- ---- a row with all its numbers

@@ -1,7 +1,8 @@
 -- Lists to which an element was added, or in which one was changed.
-use Rattle.std.proofs.Common.{ℕ, ◌≡◌, ◌+◌, ◌<◌, refl, sym, ap, zero, suc, List, [], ◌∷◌, ◌++◌, length, get_or, set, arith, length-append}
+use Rattle.std.proofs.Common.{ℕ, ◌≡◌, ◌<◌, refl, sym, ap, zero, suc, List, [], ◌∷◌, ◌++◌, length, get_or, set, arith, length-append}
 use Rattle.exact_num.specs.Q.{ℚ}
-use Rattle.exact_simplex.specs.Dense.{num, num-get}
+use Rattle.exact_simplex.specs.Dense.{num}
+use Rattle.exact_simplex.proofs.DenseLaws.{num-get}
 
 pub get_or-end : {A : Type 0} (xs : List A) (x d : A) → get_or (xs ++ x ∷ []) (length xs) d ≡ x
 get_or-end [] x d = refl

@@ -1,15 +1,14 @@
 -- A variable that may grow without end gives a direction that keeps each row and has a positive gain.
-use Rattle.std.proofs.Common.{ℕ, ◌≡◌, ◌≢◌, ◌+◌, ◌<◌, ◌≤◌, sym, ◌∙◌, ap, ap₂, subst, inl, inr, ◌⊎◌, List, ◌∷◌, length, get_or, arith, true, refl, suc, add-one, Bool, ℤ, pos, ◌*ℤ◌, ◌≤ℤ◌, ◌<ℤ◌, ◌^◌}
+use Rattle.std.proofs.Common.{ℕ, ◌≡◌, ◌+◌, ◌<◌, sym, ◌∙◌, ap, ap₂, subst, inl, inr, ◌⊎◌, List, ◌∷◌, length, get_or, arith, true, Bool, ℤ, pos, ◌≤ℤ◌, ◌<ℤ◌, ◌^◌}
 use Rattle.std.specs.List.{list_all}
-use Rattle.std.proofs.Math.Decide.{ℕ_discrete}
 use Rattle.std.proofs.Math.IntN.{zero-*ℤ}
 use Rattle.std.proofs.lemmas.Int.{ints, by_lt_z}
 use Rattle.std.proofs.lemmas.Bool.{and_parts}
 use Rattle.std.proofs.lemmas.List.{length-map}
 use Rattle.exact_num.specs.Q.{ℚ}
-use Rattle.exact_num.specs.Ops.{zero_ℚ, one_ℚ, neg_ℚ, ◌+ℚ◌, ◌*ℚ◌, +ℚ_comm, +ℚ-zero, +ℚ-neg, zero-+ℚ, *ℚ-zero, *ℚ-one, one-*ℚ, neg-*ℚ, *ℚ_comm}
+use Rattle.exact_num.specs.Ops.{zero_ℚ, one_ℚ, neg_ℚ, ◌+ℚ◌, ◌*ℚ◌, +ℚ_comm, +ℚ-neg, *ℚ-zero, *ℚ-one, one-*ℚ, neg-*ℚ, *ℚ_comm}
 use Rattle.exact_num.specs.Sums.{sum_ℚ, sum_ℚ-same, sum_ℚ-more, sum_ℚ-scale, sum_ℚ-one, entry_ℚ}
-use Rattle.exact_num.specs.Order.{◌≤ℚ◌, ◌<ℚ◌, ≤ℚ_refl, ≤ℚ_antisymm, ≤ℚ-<ℚ, <ℚ-≤ℚ, <ℚ_or_≤ℚ, <ℚ-not-≤ℚ, <ℚ-not-≡, *ℚ-positive, zero-<ℚ-one}
+use Rattle.exact_num.specs.Order.{◌≤ℚ◌, ◌<ℚ◌, ≤ℚ_antisymm, <ℚ-≤ℚ, <ℚ_or_≤ℚ, <ℚ-not-≤ℚ, <ℚ-not-≡, *ℚ-positive, zero-<ℚ-one}
 use Rattle.exact_num.specs.Whole.{int_ℚ, int_ℚ-zero, int_ℚ-≤ℤ, int_ℚ-≤ℚ}
 use Rattle.exact_num.specs.Multiples.{least_den, least_den-positive}
 use Rattle.exact_num.specs.Denominators.{num_over, nums_over, common_fits, IsCommon}
@@ -22,22 +21,26 @@ use Rattle.exact_simplex.specs.declared.task.RowKind.{RowKind}
 use Rattle.exact_simplex.specs.declared.task.RowKind.TheVariants as kind
 use Rattle.exact_simplex.specs.declared.state.RowState.{RowState}
 use Rattle.exact_simplex.specs.declared.state.RowState.TheVariants as state
-use Rattle.exact_simplex.specs.Sparse.{at, at_place, at_place-same, at_place-other, sum-at}
+use Rattle.exact_simplex.specs.Sparse.{at}
+use Rattle.exact_simplex.proofs.SparseLaws.{sum-at}
 use Rattle.exact_simplex.specs.Dense.{num}
 use Rattle.exact_simplex.specs.Inverse.{inv_of, list_at}
-use Rattle.exact_simplex.specs.Pivot.{dot}
-use Rattle.exact_simplex.specs.Duality.{ftran_sums}
-use Rattle.exact_simplex.specs.Point.{HasSlacks, spread, sum_spread, sum-split, spread-nonneg, spread-zero, spread-one}
-use Rattle.exact_simplex.specs.States.{Okay, Limits, state_of, in_force, neg_up, neg-zero, neg-positive}
-use Rattle.exact_simplex.specs.Simplex.{state_of-column, state_of-slack}
+use Rattle.exact_simplex.proofs.DualityLaws.{ftran_sums}
+use Rattle.exact_simplex.specs.Point.{HasSlacks, spread}
+use Rattle.exact_simplex.proofs.PointLaws.{sum_spread, sum-split, spread-nonneg, spread-zero, spread-one}
+use Rattle.exact_simplex.specs.States.{Limits, state_of, in_force}
+use Rattle.exact_simplex.proofs.StatesLaws.{neg_up, neg-zero, neg-positive}
+use Rattle.exact_simplex.proofs.SimplexLaws.{state_of-column, state_of-slack}
 use Rattle.exact_simplex.specs.Enter.{product}
-use Rattle.exact_simplex.specs.Leave.{state_there}
-use Rattle.exact_simplex.specs.Drive.{IsOpen, alone}
-use Rattle.exact_simplex.specs.Optimum.{below_side, meets_side, gain_is}
-use Rattle.exact_simplex.specs.Tableau.{basis_of, inverse_of, point_of}
-use Rattle.exact_simplex.specs.Progress.{size_of, column_of, side_of, IsProgress, IsRow, made_is}
+use Rattle.exact_simplex.specs.Drive.{IsOpen}
+use Rattle.exact_simplex.proofs.DriveLaws.{alone}
+use Rattle.exact_simplex.proofs.OptimumLaws.{below_side, meets_side, gain_is}
+use Rattle.exact_simplex.specs.Tableau.{basis_of, inverse_of}
+use Rattle.exact_simplex.specs.Progress.{size_of, column_of, IsProgress, IsRow}
+use Rattle.exact_simplex.proofs.ProgressLaws.{made_is}
 use Rattle.exact_simplex.specs.Final.{Describes, AreSettled}
-use Rattle.exact_simplex.specs.Scaled.{MeetsFraction, StandFor, nums_stand, sum_stands, stands_nonneg, row_stands, small}
+use Rattle.exact_simplex.specs.Scaled.{MeetsFraction, StandFor}
+use Rattle.exact_simplex.proofs.ScaledLaws.{nums_stand, sum_stands, stands_nonneg, row_stands, small}
 use Rattle.exact_simplex.specs.Task.{int_at, cell, row_at, row_sum, gain_sum, Meets, IsRay}
 use Rattle.exact_simplex.specs.Ray.{IsRayFraction}
 

@@ -1,23 +1,22 @@
 -- The first basis is one: the slacks, each at the place of its row.
-use Rattle.std.proofs.Common.{ℕ, ◌≡◌, ◌≢◌, ◌+◌, ◌<◌, ◌≤◌, ◌^◌, sym, ◌∙◌, ap, ap₂, subst, inl, inr, ◌⊎◌, List, [], ◌∷◌, ◌++◌, length, length-append, get_or, arith, refl, replicate}
+use Rattle.std.proofs.Common.{ℕ, ◌≡◌, ◌+◌, ◌<◌, ◌≤◌, ◌^◌, sym, ◌∙◌, ap, subst, inl, inr, ◌⊎◌, List, [], ◌∷◌, ◌++◌, length, length-append, get_or, arith, replicate}
 use Rattle.std.proofs.lemmas.List.{get_or-replicate, get_or_past, length-replicate}
 use Rattle.std.proofs.Math.Decide.{ℕ_discrete}
 use Rattle.exact_num.specs.Q.{ℚ}
-use Rattle.exact_num.specs.Ops.{zero_ℚ, one_ℚ, +ℚ-zero}
-use Rattle.exact_simplex.specs.declared.sparse.Entry.{Entry}
-use Rattle.exact_simplex.specs.declared.basis.Tableau.{Tableau}
+use Rattle.exact_num.specs.Ops.{one_ℚ}
 use Rattle.exact_simplex.specs.declared.progress.Task.{Task}
 use Rattle.exact_simplex.specs.declared.progress.Progress.{Progress}
-use Rattle.exact_simplex.specs.declared.state.RowState.{RowState}
 use Rattle.exact_simplex.specs.declared.state.RowState.TheVariants as state
-use Rattle.exact_simplex.specs.Sparse.{at, at_place, at_place-same, at_place-other, Rises}
+use Rattle.exact_simplex.specs.Sparse.{at, at_place, Rises}
+use Rattle.exact_simplex.proofs.SparseLaws.{at_place-same, at_place-other}
 use Rattle.exact_simplex.specs.Dense.{num}
-use Rattle.exact_simplex.specs.Inverse.{inv_of, list_at}
-use Rattle.exact_simplex.specs.Build.{HasUnits, unit_entry}
+use Rattle.exact_simplex.specs.Inverse.{list_at}
+use Rattle.exact_simplex.specs.Build.{HasUnits}
 use Rattle.exact_simplex.specs.Point.{HasSlacks}
-use Rattle.exact_simplex.specs.Start.{AreSlacks, Starts, IsUnit, start_basis, start_feasible}
-use Rattle.exact_simplex.specs.Tableau.{HasShape, basis_of, inverse_of, point_of}
-use Rattle.exact_simplex.specs.Progress.{size_of, column_of, side_of, IsProgress}
+use Rattle.exact_simplex.specs.Start.{AreSlacks, Starts, IsUnit}
+use Rattle.exact_simplex.proofs.StartLaws.{start_basis, start_feasible}
+use Rattle.exact_simplex.specs.Tableau.{basis_of, inverse_of, point_of}
+use Rattle.exact_simplex.specs.Progress.{size_of, column_of, side_of}
 use Rattle.exact_simplex.proofs.ListLemmas.{get_or-end, get_or-front}
 use Rattle.exact_simplex.proofs.BuildLemmas.{unit_number}
 

@@ -1,23 +1,26 @@
 -- A slack that cannot be driven to 0 shows that no point meets the rows.
-use Rattle.std.proofs.Common.{ℕ, ◌≡◌, ◌≢◌, ◌+◌, ◌<◌, ◌≤◌, sym, ◌∙◌, ap, ap₂, subst, inl, inr, ◌⊎◌, List, length, get_or, set, arith, Option, Some, None, Bool, true, false, refl, get_or-set_same, get_or-set_other}
+use Rattle.std.proofs.Common.{ℕ, ◌≡◌, ◌≢◌, ◌+◌, ◌<◌, ◌≤◌, sym, ◌∙◌, ap, ap₂, subst, inl, inr, ◌⊎◌, List, length, get_or, set, arith, Option, Some, Bool, true, false, refl, get_or-set_same, get_or-set_other}
 use Rattle.std.proofs.Math.Decide.{ℕ_discrete}
 use Rattle.exact_num.specs.Q.{ℚ}
-use Rattle.exact_num.specs.Ops.{zero_ℚ, neg_ℚ, ◌+ℚ◌, ◌*ℚ◌, +ℚ-zero, *ℚ-zero, zero-*ℚ}
+use Rattle.exact_num.specs.Ops.{zero_ℚ, neg_ℚ, ◌+ℚ◌, ◌*ℚ◌, +ℚ-zero, zero-*ℚ}
 use Rattle.exact_num.specs.Sums.{sum_ℚ, sum_ℚ-same}
 use Rattle.exact_num.specs.Order.{◌≤ℚ◌, ◌<ℚ◌, ≤ℚ-<ℚ}
 use Rattle.exact_num.specs.Whole.{int_ℚ}
 use Rattle.exact_simplex.specs.Pivot.{dot}
 use Rattle.exact_simplex.specs.Dense.{num}
-use Rattle.exact_simplex.specs.States.{Okay, way, state_of, in_force, neg-≤ℚ, neg-zero, neg-some}
-use Rattle.exact_simplex.specs.Simplex.{state_of-column, state_of-slack}
+use Rattle.exact_simplex.specs.States.{Okay, way, state_of, in_force}
+use Rattle.exact_simplex.proofs.StatesLaws.{neg-≤ℚ, neg-zero, neg-some}
+use Rattle.exact_simplex.proofs.SimplexLaws.{state_of-column, state_of-slack}
 use Rattle.exact_simplex.specs.Enter.{Helps}
-use Rattle.exact_simplex.specs.Optimum.{signed, signed-zero, signed_dot, not_helps, row_value, row_at_slack, row_sign}
+use Rattle.exact_simplex.specs.Optimum.{signed}
+use Rattle.exact_simplex.proofs.OptimumLaws.{signed-zero, signed_dot, not_helps, row_value, row_at_slack, row_sign}
 use Rattle.exact_simplex.specs.Tableau.{basis_of, inverse_of, point_of}
-use Rattle.exact_simplex.specs.Progress.{size_of, column_of, side_of, IsProgress}
+use Rattle.exact_simplex.specs.Progress.{size_of, column_of, side_of}
 use Rattle.exact_simplex.specs.Force.{Counts, GoesFor, IsStuck, ShowsNone, OthersKept, ForcesTo}
 use Rattle.exact_simplex.specs.declared.force.Blocked.{Blocked}
 use Rattle.exact_simplex.specs.declared.force.Blocked.TheVariants as blocked
-use Rattle.exact_simplex.specs.Final.{Describes, product_is, last_apart}
+use Rattle.exact_simplex.specs.Final.{Describes}
+use Rattle.exact_simplex.proofs.FinalLaws.{product_is, last_apart}
 use Rattle.exact_simplex.specs.Rows.{AreForced, ForcesAll}
 use Rattle.exact_simplex.specs.Scaled.{IsMultiplierFraction}
 use Rattle.exact_simplex.specs.Empty.{ShowsEmptyFraction}

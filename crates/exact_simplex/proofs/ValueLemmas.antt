@@ -1,14 +1,14 @@
 -- The values of the columns are gathered place by place.
-use Rattle.std.proofs.Common.{ℕ, ◌≡◌, ◌≢◌, ◌+◌, ◌<◌, ◌≤◌, sym, ◌∙◌, ap, ap₂, subst, List, length, get_or, set, arith, refl, replicate, length-set, suc, add-one}
+use Rattle.std.proofs.Common.{ℕ, ◌≡◌, ◌+◌, ◌<◌, ◌≤◌, sym, ◌∙◌, ap, ap₂, List, length, get_or, set, arith, replicate}
 use Rattle.std.proofs.lemmas.List.{get_or-replicate, length-replicate}
 use Rattle.std.proofs.Math.Decide.{ℕ_discrete}
 use Rattle.exact_num.specs.Q.{ℚ}
 use Rattle.exact_num.specs.Ops.{zero_ℚ, ◌+ℚ◌, +ℚ-zero}
 use Rattle.exact_num.specs.Sums.{sum_ℚ-more}
-use Rattle.exact_simplex.specs.Sparse.{at_place, at_place-same, at_place-other}
-use Rattle.exact_simplex.specs.Dense.{num, num-get, num-set_same, num-set_other}
-use Rattle.exact_simplex.specs.Inverse.{get_or-any}
-use Rattle.exact_simplex.specs.Point.{spread}
+use Rattle.exact_simplex.specs.Sparse.{at_place}
+use Rattle.exact_simplex.proofs.SparseLaws.{at_place-same, at_place-other}
+use Rattle.exact_simplex.specs.Dense.{num}
+use Rattle.exact_simplex.proofs.DenseLaws.{num-get, num-set_same, num-set_other}
 use Rattle.exact_simplex.specs.Values.{AddsValue, AreValuesTo}
 
 -- a number added where its variable is a column

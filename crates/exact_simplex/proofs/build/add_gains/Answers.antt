@@ -1,5 +1,4 @@
-use Rattle.std.proofs.Common.{arith, ◌∙◌, ◌+◌, sym, ap, subst, get_or, pos, refl}
-use Rattle.exact_simplex.specs.Inverse.{get_or-any}
+use Rattle.std.proofs.Common.{◌∙◌, refl}
 use Rattle.exact_simplex.proofs.BuildLemmas.{gains_more}
 use Rattle.exact_simplex.proofs.build.add_gains.Goals as goal
 

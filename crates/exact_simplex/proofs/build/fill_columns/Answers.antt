@@ -1,4 +1,4 @@
-use Rattle.std.proofs.Common.{arith, ◌∙◌, ◌+◌, ◌<◌, sym, ap, subst, get_or, refl, length, ℕ}
+use Rattle.std.proofs.Common.{sym, subst, length}
 use Rattle.exact_simplex.specs.Build.{RowsBelow}
 use Rattle.exact_simplex.proofs.BuildLemmas.{rows_below}
 use Rattle.exact_simplex.proofs.build.fill_columns.Goals as goal

@@ -1,4 +1,4 @@
-use Rattle.std.proofs.Common.{◌∙◌, sym, subst, refl}
+use Rattle.std.proofs.Common.{◌∙◌, sym, subst}
 use Rattle.exact_num.specs.Order.{<ℚ-≤ℚ, ◌≤ℚ◌}
 use Rattle.exact_num.specs.Ops.{zero_ℚ}
 use Rattle.exact_simplex.specs.Force.{SuitsAt}

@@ -1,4 +1,4 @@
-use Rattle.std.proofs.Common.{arith, ◌∙◌, ◌+◌, sym, ap, subst, ◌++◌, ◌∷◌, [], false}
+use Rattle.std.proofs.Common.{arith, ◌∙◌, ◌+◌, sym, ap, subst, false}
 use Rattle.std.specs.Prelude.{pos}
 use Rattle.exact_num.specs.Ops.{neg_ℚ}
 use Rattle.exact_num.specs.Whole.{int_ℚ-one, int_ℚ-neg}

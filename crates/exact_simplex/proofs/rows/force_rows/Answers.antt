@@ -1,6 +1,6 @@
-use Rattle.std.proofs.Common.{◌∙◌, ap, sym, get_or, ◌≡◌, ◌<◌, length, arith, subst}
-use Rattle.exact_simplex.specs.Inverse.{get_or-any}
-use Rattle.exact_simplex.specs.Task.{row_at, no_row}
+use Rattle.std.proofs.Common.{◌∙◌, ap, get_or, ◌<◌, length, subst}
+use Rattle.exact_simplex.proofs.InverseLaws.{get_or-any}
+use Rattle.exact_simplex.specs.Task.{no_row}
 use Rattle.exact_simplex.proofs.StuckLemmas.{blocked_all}
 use Rattle.exact_simplex.proofs.rows.force_rows.Goals as goal
 

@@ -1,4 +1,4 @@
-use Rattle.std.proofs.Common.{◌∙◌, ◌<◌, sym, ap, subst, take, length}
+use Rattle.std.proofs.Common.{◌<◌, sym, subst, take}
 use Rattle.exact_simplex.specs.Dense.{num}
 use Rattle.exact_simplex.specs.Scaled.{IsOptimum}
 use Rattle.exact_simplex.proofs.AnswerLemmas.{best_from, num-take}

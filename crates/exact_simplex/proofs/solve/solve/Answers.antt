@@ -1,4 +1,4 @@
-use Rattle.std.proofs.Common.{◌∙◌, ◌≡◌, ◌<◌, sym, ap, subst, length, take}
+use Rattle.std.proofs.Common.{◌<◌, sym, subst, take}
 use Rattle.exact_simplex.specs.Dense.{num}
 use Rattle.exact_simplex.specs.Empty.{ShowsEmptyFraction}
 use Rattle.exact_simplex.proofs.AnswerLemmas.{empty_same, num-take, forces_empty}

@@ -1,4 +1,4 @@
-use Rattle.std.proofs.Common.{sym, subst, ◌+◌, refl, ◌++◌, ◌∷◌, []}
+use Rattle.std.proofs.Common.{sym, subst, ◌+◌, refl}
 use Rattle.exact_simplex.specs.Start.{AreSlacks}
 use Rattle.exact_simplex.proofs.StartLemmas.{slacks_more}
 use Rattle.exact_simplex.proofs.start.slacks.Goals as goal

@@ -1,4 +1,4 @@
-use Rattle.std.proofs.Common.{◌∙◌, ap, sym, subst, refl, length, [], ◌≡◌, replicate}
+use Rattle.std.proofs.Common.{◌∙◌, ap, subst, refl, [], ◌≡◌, replicate}
 use Rattle.exact_num.specs.Whole.{int_ℚ-one}
 use Rattle.exact_simplex.specs.Build.{HasUnits}
 use Rattle.exact_simplex.specs.Start.{AreSlacks}
