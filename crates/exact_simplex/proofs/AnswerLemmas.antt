@@ -22,11 +22,11 @@ use Rattle.exact_simplex.specs.declared.force.Blocked.{Blocked}
 use Rattle.exact_simplex.specs.declared.force.Blocked.TheVariants as blocked
 use Rattle.exact_simplex.specs.Rows.{ForcesAll}
 use Rattle.exact_simplex.specs.declared.state.RowState.TheVariants as state
-use Rattle.exact_simplex.specs.Drive.{Keeps, IsOpen, EndsAt}
+use Rattle.exact_simplex.specs.Drive.{Keeps, IsUnbounded, EndsAt}
 use Rattle.exact_simplex.specs.Empty.{ShowsEmptyFraction}
 use Rattle.exact_simplex.specs.Final.{Describes, AreSettled}
 use Rattle.exact_simplex.proofs.FinalLaws.{optimum}
-use Rattle.exact_simplex.specs.Point.{spread}
+use Rattle.exact_simplex.specs.Point.{variable_value}
 use Rattle.exact_simplex.specs.Progress.{size_of, IsProgress, IsRow}
 use Rattle.exact_simplex.specs.Ray.{IsRayFraction, IsDirection}
 use Rattle.exact_simplex.specs.Scaled.{IsOptimum, MeetsFraction, IsMultiplierFraction}
@@ -77,10 +77,10 @@ pub best_from : {N : Type 0} (value : N → ℚ) (lp : Lp) (task : Task N) (p : 
     → basis ≡ p.tableau.basis.items → point ≡ p.tableau.point.items → AreValues value task.columns basis point x → ((i : ℕ) → i < length lp.rows → num value z i ≡ num value y i)
     → IsOptimum lp (num value x) (num value z)
 best_from value lp task p y x z basis point describes is settled row extreme basis_is point_is values z_same =
-    optimum_same lp (spread (basis_of p.tableau) (point_of value p.tableau) (size_of task)) (num value y) (num value x) (num value z)
+    optimum_same lp (variable_value (basis_of p.tableau) (point_of value p.tableau) (size_of task)) (num value y) (num value x) (num value z)
     (λ j l. values.same j (let c = describes.columns in omega arith)
-    ∙ ap₂ (λ b q. spread (λ r. get_or b r 0) (num value q) (length b) j) basis_is point_is
-    ∙ ap (λ k. spread (basis_of p.tableau) (point_of value p.tableau) k j) is.shape.basis_length)
+    ∙ ap₂ (λ b q. variable_value (λ r. get_or b r 0) (num value q) (length b) j) basis_is point_is
+    ∙ ap (λ k. variable_value (basis_of p.tableau) (point_of value p.tableau) k j) is.shape.basis_length)
     z_same (optimum value lp task p y describes is settled row extreme)
 
 -- ---- the answers
@@ -117,7 +117,7 @@ direction_from value task p entering made zeros moved numbers values variables n
   variables = λ q. get_or variables q 0;
   steps = num value numbers;
   one_each = is.one_each;
-  same = λ v l. is.same v l ∙ ap (λ k. spread (λ q. get_or variables q 0) (num value numbers) k v) (ap length variables_are ∙ length-append p.tableau.basis.items (entering ∷ []) ∙ ap (λ k. k + 1) size);
+  same = λ v l. is.same v l ∙ ap (λ k. variable_value (λ q. get_or variables q 0) (num value numbers) k v) (ap length variables_are ∙ length-append p.tableau.basis.items (entering ∷ []) ∙ ap (λ k. k + 1) size);
   places = λ q l. ap (λ xs. get_or xs q 0) variables_are ∙ get_or-front p.tableau.basis.items entering 0 q (let e = size in omega arith);
   last = ap (λ xs. get_or xs (size_of task) 0) variables_are ∙ ap (λ k. get_or (p.tableau.basis.items ++ entering ∷ []) k 0) (sym size) ∙ get_or-end p.tableau.basis.items entering 0;
   falls = λ q l.
@@ -136,9 +136,9 @@ direction_from value task p entering made zeros moved numbers values variables n
     moved_length = same_length ∙ zeros_length
 
 pub ray_from : {N : Type 0} (value : N → ℚ) (lp : Lp) (task : Task N) (p : Progress N) (y : List N) (entering : ℕ) (made : List (Entry N)) (values : List N) → Describes value lp task → IsProgress value task p → AreSettled lp p.states.items
-    → IsRow value (size_of task) p.tableau (length lp.rows) y → IsOpen value task p y true entering made → IsDirection value task p entering made values → IsRayFraction lp (num value values)
+    → IsRow value (size_of task) p.tableau (length lp.rows) y → IsUnbounded value task p y true entering made → IsDirection value task p entering made values → IsRayFraction lp (num value values)
 ray_from value lp task p y entering made values describes is settled row free moves =
-    ray_same lp (spread moves.variables moves.steps (size_of task + 1)) (num value values) (λ j l. moves.same j (let c = describes.columns in omega arith))
+    ray_same lp (variable_value moves.variables moves.steps (size_of task + 1)) (num value values) (λ j l. moves.same j (let c = describes.columns in omega arith))
     (ray_shows value lp task p y entering made moves.variables moves.steps describes is settled row free moves.places moves.last moves.falls moves.one)
 
 -- ---- the last drive
@@ -148,7 +148,7 @@ pub gain_stays : {N : Type 0} (value : N → ℚ) (lp : Lp) (task : Task N) (lim
     → Keeps value task limit old new steps steps' → d ≡ driven.Left → EndsAt value task (length lp.rows) true limit old new y d → ⊥
 gain_stays value lp task limit old new y steps steps' d describes settled keeps left ended =
     let m : length lp.rows < size_of task = let e = describes.size in omega arith in
-    subst (λ e. EndsAt value task (length lp.rows) true limit old new y e) left ended (length lp.rows) m (keeps.progress.feasible.home (length lp.rows) m (ap (λ v. get_or v.items (length lp.rows) state.Waiting) keeps.states ∙ settled.gain))
+    subst (λ e. EndsAt value task (length lp.rows) true limit old new y e) left ended (length lp.rows) m (keeps.progress.feasible.own_place (length lp.rows) m (ap (λ v. get_or v.items (length lp.rows) state.Waiting) keeps.states ∙ settled.gain))
 
 pub settled_after : {N : Type 0} (value : N → ℚ) (lp : Lp) (task : Task N) (limit : ℕ) (old new : Progress N) (steps steps' : ℕ) → AreSettled lp old.states.items → Keeps value task limit old new steps steps' → AreSettled lp new.states.items
 settled_after value lp task limit old new steps steps' settled keeps = subst (λ v. AreSettled lp v.items) (sym keeps.states) settled
@@ -157,9 +157,9 @@ pub stuck_gain : {N : Type 0} (value : N → ℚ) (lp : Lp) (task : Task N) (lim
     → IsRow value (size_of task) new.tableau (length lp.rows) y × IsExtreme value task new.states.items y true
 stuck_gain value lp task limit old new y d is end = let e = subst (λ x. EndsAt value task (length lp.rows) true limit old new y x) is end in (e.0.is_row, e.1)
 
-pub open_gain : {N : Type 0} (value : N → ℚ) (lp : Lp) (task : Task N) (limit : ℕ) (old new : Progress N) (y : List N) (d : Driven N) (entering : ℕ) (made : List (Entry N)) → d ≡ driven.Open entering made → EndsAt value task (length lp.rows) true limit old new y d
-    → IsRow value (size_of task) new.tableau (length lp.rows) y × IsOpen value task new y true entering made
-open_gain value lp task limit old new y d entering made is end = let e = subst (λ x. EndsAt value task (length lp.rows) true limit old new y x) is end in (e.0.is_row, e.1)
+pub unbounded_gain : {N : Type 0} (value : N → ℚ) (lp : Lp) (task : Task N) (limit : ℕ) (old new : Progress N) (y : List N) (d : Driven N) (entering : ℕ) (made : List (Entry N)) → d ≡ driven.Unbounded entering made → EndsAt value task (length lp.rows) true limit old new y d
+    → IsRow value (size_of task) new.tableau (length lp.rows) y × IsUnbounded value task new y true entering made
+unbounded_gain value lp task limit old new y d entering made is end = let e = subst (λ x. EndsAt value task (length lp.rows) true limit old new y x) is end in (e.0.is_row, e.1)
 
 pub stalled_gain : {N : Type 0} (value : N → ℚ) (lp : Lp) (task : Task N) (limit : ℕ) (old new : Progress N) (y : List N) (d : Driven N) → d ≡ driven.Stalled → EndsAt value task (length lp.rows) true limit old new y d → new.pivots ≡ limit
 stalled_gain value lp task limit old new y d is end = (subst (λ x. EndsAt value task (length lp.rows) true limit old new y x) is end).1

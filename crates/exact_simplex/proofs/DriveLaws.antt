@@ -26,7 +26,7 @@ use Rattle.exact_simplex.specs.declared.state.RowState.{RowState}
 use Rattle.exact_simplex.specs.Progress.{size_of, column_of, side_of, IsTaskLists, IsProgress, IsRow, Advances}
 use Rattle.exact_simplex.proofs.ProgressLaws.{made_is}
 use Rattle.exact_simplex.specs.declared.state.RowState.TheVariants as state
-use Rattle.exact_simplex.specs.Drive.{EndsAt, IsGone, IsOpen, IsThere, Keeps}
+use Rattle.exact_simplex.specs.Drive.{EndsAt, IsNowhere, IsUnbounded, IsThere, Keeps}
 
 pub keeps_none : {N : Type 0} (value : N → ℚ) (task : Task N) (limit : ℕ) (p : Progress N) (steps : ℕ) → IsProgress value task p → p.pivots ≤ limit → Keeps value task limit p p steps steps
 keeps_none value task limit p steps is l = record { progress = is; states = refl; counted = refl; within = l }
@@ -52,34 +52,34 @@ keeps_advance value task row entering place limit old new y steps steps' is l = 
 pub ends_later : {N : Type 0} (value : N → ℚ) (task : Task N) (row : ℕ) (up : Bool) (limit : ℕ) (a b c : Progress N) (y y' : List N) (d : Driven N) → IsThere value task row a b y → EndsAt value task row up limit b c y' d → EndsAt value task row up limit a c y' d
 ends_later value task row up limit a b c y y' driven.Left first end = end
 ends_later value task row up limit a b c y y' driven.Stuck first end = (record { same = end.0.same ∙ first.same; is_row = end.0.is_row }, end.1)
-ends_later value task row up limit a b c y y' (driven.Open entering made) first end = (record { same = end.0.same ∙ first.same; is_row = end.0.is_row }, end.1)
+ends_later value task row up limit a b c y y' (driven.Unbounded entering made) first end = (record { same = end.0.same ∙ first.same; is_row = end.0.is_row }, end.1)
 ends_later value task row up limit a b c y y' driven.Stalled first end = (record { same = end.0.same ∙ first.same; is_row = end.0.is_row }, end.1)
 
 pub one_not_zero : one_ℚ ≢ zero_ℚ
 one_not_zero e = <ℚ-not-≡ zero_ℚ one_ℚ zero-<ℚ-one (sym e)
 
 -- the slack of a row in the basis stands nowhere else
-pub alone : {N : Type 0} (value : N → ℚ) (task : Task N) (p : Progress N) (row q : ℕ) → IsProgress value task p → row < size_of task → basis_of p.tableau row ≡ task.columns + row → q < size_of task → basis_of p.tableau q ≡ task.columns + row → q ≡ row
-alone value task p row q is l home j e =
-    one_place (size_of task) (column_of value task) (side_of value task) (basis_of p.tableau) (inverse_of value p.tableau) (point_of value p.tableau) one_not_zero is.basis q row j l (e ∙ sym home)
+pub only_place : {N : Type 0} (value : N → ℚ) (task : Task N) (p : Progress N) (row q : ℕ) → IsProgress value task p → row < size_of task → basis_of p.tableau row ≡ task.columns + row → q < size_of task → basis_of p.tableau q ≡ task.columns + row → q ≡ row
+only_place value task p row q is l own_place j e =
+    one_place (size_of task) (column_of value task) (side_of value task) (basis_of p.tableau) (inverse_of value p.tableau) (point_of value p.tableau) one_not_zero is.basis q row j l (e ∙ sym own_place)
 
 -- where the slack's own place was left, it stands nowhere
-pub left_gone : {N : Type 0} (value : N → ℚ) (task : Task N) (row entering place : ℕ) (old new : Progress N) (y : List N) (steps steps' : ℕ) → IsProgress value task old → row < size_of task
+pub left_nowhere : {N : Type 0} (value : N → ℚ) (task : Task N) (row entering place : ℕ) (old new : Progress N) (y : List N) (steps steps' : ℕ) → IsProgress value task old → row < size_of task
     → basis_of old.tableau row ≡ task.columns + row → get_or old.states.items row state.Waiting ≢ state.AtLeast → state_of task.columns old.states.items entering ≡ state.AtLeast
-    → place ≡ row → Advances value task row entering place old new y steps steps' → IsGone task row new
-left_gone value task row entering place old new y steps steps' is l home other may here adv q j e =
+    → place ≡ row → Advances value task row entering place old new y steps steps' → IsNowhere task row new
+left_nowhere value task row entering place old new y steps steps' is l own_place other may here adv q j e =
     let go : Dec (q ≡ place) → ⊥ = elim [
       | yes s ↦
           let came : entering ≡ task.columns + row = sym adv.enters ∙ ap (basis_of new.tableau) (sym s) ∙ e in
           other (sym (state_of-slack task.columns old.states.items row) ∙ ap (state_of task.columns old.states.items) (sym came) ∙ may)
-      | no ne ↦ ne (alone value task old row q is l home j (sym (adv.others q j ne) ∙ e) ∙ sym here)
+      | no ne ↦ ne (only_place value task old row q is l own_place j (sym (adv.others q j ne) ∙ e) ∙ sym here)
     ] in
     go (ℕ_discrete q place)
 
 -- a drive that comes to an end of its own at the row cannot be open
-pub open_blocked : {N : Type 0} (value : N → ℚ) (task : Task N) (p : Progress N) (y : List N) (up : Bool) (row entering : ℕ) (made : List (Entry N)) → IsTaskLists task → IsProgress value task p → row < size_of task → IsRow value (size_of task) p.tableau row y
-    → IsOpen value task p y up entering made → (Helps up (at value made row) → Limits (state_there task.columns p.states.items p.tableau row) (at value made row)) → ⊥
-open_blocked value task p y up row entering made lists is l is_row free limits =
+pub unbounded_blocked : {N : Type 0} (value : N → ℚ) (task : Task N) (p : Progress N) (y : List N) (up : Bool) (row entering : ℕ) (made : List (Entry N)) → IsTaskLists task → IsProgress value task p → row < size_of task → IsRow value (size_of task) p.tableau row y
+    → IsUnbounded value task p y up entering made → (Helps up (at value made row) → Limits (state_there task.columns p.states.items p.tableau row) (at value made row)) → ⊥
+unbounded_blocked value task p y up row entering made lists is l is_row free limits =
     let below : entering < task.columns + size_of task = let e = lists.each in let k = free.below in omega arith in
     let same : product value task y entering ≡ at value made row
     = sym (sum-at value (num value y) (list_at task.lists.items entering) (size_of task) (lists.below entering below))
@@ -88,12 +88,12 @@ open_blocked value task p y up row entering made lists is l is_row free limits =
     free.free row l (limits (subst (λ q. Helps up q) same free.helps.helps))
 
 -- what was chosen, made and not found, in the words of the caller
-pub open_is : {N : Type 0} (value : N → ℚ) (task : Task N) (p : Progress N) (y : List N) (up : Bool) (v m : ℕ) (states' states'' : List RowState) (inverse' : List (List (Entry N))) (column' made made' : List (Entry N)) (o : Option ℕ) (f : Option (Leaving N))
+pub unbounded_is : {N : Type 0} (value : N → ℚ) (task : Task N) (p : Progress N) (y : List N) (up : Bool) (v m : ℕ) (states' states'' : List RowState) (inverse' : List (List (Entry N))) (column' made made' : List (Entry N)) (o : Option ℕ) (f : Option (Leaving N))
     → o ≡ Some v → states' ≡ p.states.items → Chooses value task states' y up o
     → inverse' ≡ p.tableau.inverse.items → column' ≡ list_at task.lists.items v → Makes value inverse' column' made
     → m ≡ size_of task → states'' ≡ p.states.items → made' ≡ made → f ≡ None → FindsLeaving value m task.columns states'' p.tableau made' f
-    → IsOpen value task p y up v made
-open_is value task p y up v m states' states'' inverse' column' made made' o f is same chosen i_same c_same makes m_same s_same made_same none found =
+    → IsUnbounded value task p y up v made
+unbounded_is value task p y up v m states' states'' inverse' column' made made' o f is same chosen i_same c_same makes m_same s_same made_same none found =
     let picked : Chooses value task p.states.items y up (Some v) = subst (λ s. Chooses value task s y up (Some v)) same (subst (λ q. Chooses value task states' y up q) is chosen) in
     record {
       below = picked.0;

@@ -10,8 +10,8 @@ use Rattle.exact_simplex.proofs.SparseLaws.{sum-at}
 use Rattle.exact_simplex.specs.Dense.{num}
 use Rattle.exact_simplex.specs.Inverse.{list_at}
 use Rattle.exact_simplex.proofs.BasisLaws.{one_place}
-use Rattle.exact_simplex.specs.Point.{spread}
-use Rattle.exact_simplex.proofs.PointLaws.{row_of_point, spread-nonneg, spread-zero, spread-one}
+use Rattle.exact_simplex.specs.Point.{variable_value}
+use Rattle.exact_simplex.proofs.PointLaws.{row_of_point, variable_value-nonneg, variable_value-zero, variable_value-one}
 use Rattle.exact_simplex.specs.States.{Okay, state_of, in_force}
 use Rattle.exact_simplex.proofs.SimplexLaws.{state_of-column, state_of-slack}
 use Rattle.exact_simplex.specs.Enter.{IsExtreme, product}
@@ -52,7 +52,7 @@ module _ {N : Type 0} (value : N → ℚ) (lp : Lp) (task : Task N) (p : Progres
   m = length lp.rows
 
   X : ℕ → ℚ
-  X = spread (basis_of p.tableau) (point_of value p.tableau) (size_of task)
+  X = variable_value (basis_of p.tableau) (point_of value p.tableau) (size_of task)
 
   m_below : length lp.rows < size_of task
   m_below = let e = describes.size in omega arith
@@ -60,8 +60,8 @@ module _ {N : Type 0} (value : N → ℚ) (lp : Lp) (task : Task N) (p : Progres
   row_below : (i : ℕ) → i < length lp.rows → i < size_of task
   row_below i l = let e = describes.size in omega arith
 
-  home : basis_of p.tableau (length lp.rows) ≡ task.columns + length lp.rows
-  home = is.feasible.home (length lp.rows) m_below settled.gain
+  own_place : basis_of p.tableau (length lp.rows) ≡ task.columns + length lp.rows
+  own_place = is.feasible.own_place (length lp.rows) m_below settled.gain
 
   -- a variable with a state prices right
   prices : (v : ℕ) → v < task.columns + size_of task → state_of task.columns p.states.items v ≡ state.AtLeast → zero_ℚ ≤ℚ dot (num value y) (column_of value task v) (size_of task)
@@ -75,26 +75,26 @@ module _ {N : Type 0} (value : N → ℚ) (lp : Lp) (task : Task N) (p : Progres
   slack_state : (i : ℕ) (s : RowState) → get_or p.states.items i state.Waiting ≡ s → state_of task.columns p.states.items (task.columns + i) ≡ s
   slack_state i s e = state_of-slack task.columns p.states.items i ∙ e
 
-  row_is : (i : ℕ) → i < size_of task → sum_ℚ (λ j. spread (basis_of p.tableau) (point_of value p.tableau) (size_of task) j *ℚ column_of value task j i) task.columns +ℚ spread (basis_of p.tableau) (point_of value p.tableau) (size_of task) (task.columns + i) ≡ side_of value task i
+  row_is : (i : ℕ) → i < size_of task → sum_ℚ (λ j. variable_value (basis_of p.tableau) (point_of value p.tableau) (size_of task) j *ℚ column_of value task j i) task.columns +ℚ variable_value (basis_of p.tableau) (point_of value p.tableau) (size_of task) (task.columns + i) ≡ side_of value task i
   row_is i l = row_of_point (size_of task) task.columns i (column_of value task) (basis_of p.tableau) (point_of value p.tableau) (side_of value task i) describes.slacks l is.within (is.basis.point i l)
 
-  pub optimum : IsOptimum lp (spread (basis_of p.tableau) (point_of value p.tableau) (size_of task)) (num value y)
+  pub optimum : IsOptimum lp (variable_value (basis_of p.tableau) (point_of value p.tableau) (size_of task)) (num value y)
   optimum =
-      let x = spread (basis_of p.tableau) (point_of value p.tableau) (size_of task) in
+      let x = variable_value (basis_of p.tableau) (point_of value p.tableau) (size_of task) in
       let size = size_of task in
       let n = task.columns in
       let columns : lp.columns ≡ n = sym describes.columns in
       let one : num value y (length lp.rows) ≡ one_ℚ
-      = row_at_own size n (length lp.rows) (column_of value task) (side_of value task) (basis_of p.tableau) (inverse_of value p.tableau) (point_of value p.tableau) (num value y) describes.slacks is.basis m_below row.same (length lp.rows) m_below home in
+      = row_at_own size n (length lp.rows) (column_of value task) (side_of value task) (basis_of p.tableau) (inverse_of value p.tableau) (point_of value p.tableau) (num value y) describes.slacks is.basis m_below row.same (length lp.rows) m_below own_place in
       record {
-        x_sign = λ j l. spread-nonneg size j (basis_of p.tableau) (point_of value p.tableau) (λ q k e. value_there j q state.AtLeast k e (state_of-column n p.states.items j (let c = columns in omega arith)));
+        x_sign = λ j l. variable_value-nonneg size j (basis_of p.tableau) (point_of value p.tableau) (λ q k e. value_there j q state.AtLeast k e (state_of-column n p.states.items j (let c = columns in omega arith)));
         rows = λ i l.
             let same : sum_ℚ (λ j. x j *ℚ column_of value task j i) n ≡ sum_ℚ (λ j. x j *ℚ int_ℚ (cell lp i j)) lp.columns
             = sum_ℚ-same (λ j. x j *ℚ column_of value task j i) (λ j. x j *ℚ int_ℚ (cell lp i j)) n (λ j k. ap (λ u. x j *ℚ u) (describes.cells j i k l)) ∙ ap (sum_ℚ (λ j. x j *ℚ int_ℚ (cell lp i j))) describes.columns in
             row_meets (row_at lp i).kind (get_or p.states.items i state.Waiting) (sum_ℚ (λ j. x j *ℚ int_ℚ (cell lp i j)) lp.columns) (x (n + i)) (int_ℚ (row_at lp i).side) (settled.rows i l)
             (ap (λ a. a +ℚ x (n + i)) (sym same) ∙ row_is i (row_below i l) ∙ describes.sides i l)
-            (λ s. spread-nonneg size (n + i) (basis_of p.tableau) (point_of value p.tableau) (λ q k e. value_there (n + i) q state.AtLeast k e (slack_state i state.AtLeast s)))
-            (λ s. spread-zero size (n + i) (basis_of p.tableau) (point_of value p.tableau) (λ q k e. value_there (n + i) q state.Zero k e (slack_state i state.Zero s)));
+            (λ s. variable_value-nonneg size (n + i) (basis_of p.tableau) (point_of value p.tableau) (λ q k e. value_there (n + i) q state.AtLeast k e (slack_state i state.AtLeast s)))
+            (λ s. variable_value-zero size (n + i) (basis_of p.tableau) (point_of value p.tableau) (λ q k e. value_there (n + i) q state.Zero k e (slack_state i state.Zero s)));
         y_sign = λ i l. row_signs (row_at lp i).kind (get_or p.states.items i state.Waiting) (num value y i) (settled.rows i l)
             (λ s. subst (λ q. zero_ℚ ≤ℚ q) (dot_slack size n i (column_of value task) (num value y) describes.slacks (row_below i l))
             (prices (n + i) (let k = row_below i l in omega arith) (slack_state i state.AtLeast s)));
@@ -110,8 +110,8 @@ module _ {N : Type 0} (value : N → ℚ) (lp : Lp) (task : Task N) (p : Progres
             let gained : sum_ℚ (λ j. x j *ℚ int_ℚ (int_at lp.gain j)) n ≡ x (n + length lp.rows)
             = gain_is n x (λ j. int_ℚ (int_at lp.gain j)) (λ j. column_of value task j (length lp.rows)) (x (n + length lp.rows)) describes.gains (row_is (length lp.rows) m_below ∙ describes.no_side) in
             let there : x (n + length lp.rows) ≡ point_of value p.tableau (length lp.rows)
-            = spread-one size (n + length lp.rows) (length lp.rows) (basis_of p.tableau) (point_of value p.tableau) m_below home
-            (λ q k e. one_place size (column_of value task) (side_of value task) (basis_of p.tableau) (inverse_of value p.tableau) (point_of value p.tableau) (λ z. <ℚ-not-≡ zero_ℚ one_ℚ zero-<ℚ-one (sym z)) is.basis q (length lp.rows) k m_below (e ∙ sym home)) in
+            = variable_value-one size (n + length lp.rows) (length lp.rows) (basis_of p.tableau) (point_of value p.tableau) m_below own_place
+            (λ q k e. one_place size (column_of value task) (side_of value task) (basis_of p.tableau) (inverse_of value p.tableau) (point_of value p.tableau) (λ z. <ℚ-not-≡ zero_ℚ one_ℚ zero-<ℚ-one (sym z)) is.basis q (length lp.rows) k m_below (e ∙ sym own_place)) in
             let side : dot (num value y) (side_of value task) size ≡ sum_ℚ (λ i. num value y i *ℚ int_ℚ (row_at lp i).side) (length lp.rows)
             = last_apart (λ i. num value y i *ℚ side_of value task i) (length lp.rows) size describes.size
             ∙ ap₂ (λ a b. a +ℚ b) (sum_ℚ-same (λ i. num value y i *ℚ side_of value task i) (λ i. num value y i *ℚ int_ℚ (row_at lp i).side) (length lp.rows) (λ i h. ap (λ u. num value y i *ℚ u) (describes.sides i h)))

@@ -20,14 +20,14 @@ use Rattle.exact_simplex.specs.Dense.{num}
 use Rattle.exact_simplex.proofs.DenseLaws.{num-get}
 use Rattle.exact_simplex.specs.Inverse.{inv_of, list_at}
 use Rattle.exact_simplex.specs.Enter.{Helps, IsExtreme}
-use Rattle.exact_simplex.specs.States.{Okay, Limits, state_of, way, in_force}
+use Rattle.exact_simplex.specs.States.{Okay, Limits, state_of, driven_state_of, in_force}
 use Rattle.exact_simplex.specs.Basis.{IsBasis}
 use Rattle.exact_simplex.specs.Simplex.{IsFeasible}
 use Rattle.exact_simplex.proofs.SimplexLaws.{feasible_settled, state_of-slack}
 use Rattle.exact_simplex.specs.Tableau.{HasShape, basis_of, inverse_of, point_of}
 use Rattle.exact_simplex.specs.Progress.{size_of, column_of, side_of, IsTaskLists, IsProgress, IsRow}
 use Rattle.exact_simplex.specs.Drive.{Keeps, IsThere, EndsAt}
-use Rattle.exact_simplex.proofs.DriveLaws.{alone, open_blocked}
+use Rattle.exact_simplex.proofs.DriveLaws.{only_place, unbounded_blocked}
 use Rattle.exact_simplex.specs.Force.{IsRowOf, SuitsAt, Settles, Counts, IsInForce, SignedTo, IsStuck, SettlesOrShows, ForcesTo}
 use Rattle.exact_simplex.proofs.ListLemmas.{num-end, num-front, set_twice}
 
@@ -67,12 +67,12 @@ opposite_more value y k z minus old new l here minus_is times so = record {
 
 -- ---- another state
 
-abbrev IsWay : RowState → Type 0
-IsWay state.Below = Unit {0}
-IsWay state.Above = Unit {0}
-IsWay state.Waiting = ⊥
-IsWay state.AtLeast = ⊥
-IsWay state.Zero = ⊥
+abbrev IsDrivenState : RowState → Type 0
+IsDrivenState state.Below = Unit {0}
+IsDrivenState state.Above = Unit {0}
+IsDrivenState state.Waiting = ⊥
+IsDrivenState state.AtLeast = ⊥
+IsDrivenState state.Zero = ⊥
 
 abbrev IsForce : RowState → Type 0
 IsForce state.AtLeast = Unit {0}
@@ -81,19 +81,19 @@ IsForce state.Waiting = ⊥
 IsForce state.Above = ⊥
 IsForce state.Below = ⊥
 
-is_way : (up : Bool) → IsWay (way up)
-is_way true = tt
-is_way false = tt
+is_driven_state : (up : Bool) → IsDrivenState (driven_state_of up)
+is_driven_state true = tt
+is_driven_state false = tt
 
 is_force : (k : RowKind) → IsForce (in_force k)
 is_force kind.AtMost = tt
 is_force kind.Equal = tt
 
-pub way_moves : (up : Bool) → way up ≢ state.Waiting
-way_moves up e = subst (λ s. IsWay s) e (is_way up)
+pub driven_state_moves : (up : Bool) → driven_state_of up ≢ state.Waiting
+driven_state_moves up e = subst (λ s. IsDrivenState s) e (is_driven_state up)
 
-pub way_driven : (up : Bool) → way up ≢ state.AtLeast
-way_driven up e = subst (λ s. IsWay s) e (is_way up)
+pub driven_state_other : (up : Bool) → driven_state_of up ≢ state.AtLeast
+driven_state_other up e = subst (λ s. IsDrivenState s) e (is_driven_state up)
 
 pub force_holds : (k : RowKind) → in_force k ≢ state.Waiting
 force_holds k e = subst (λ s. IsForce s) e (is_force k)
@@ -116,7 +116,7 @@ settles value task row s old new was l some suits same states = record {
 
 -- a value that suits, where the slack stands at its own place
 pub suits_here : {N : Type 0} (value : N → ℚ) (task : Task N) (row : ℕ) (s : RowState) (p : Progress N) → IsProgress value task p → row < size_of task → basis_of p.tableau row ≡ task.columns + row → Okay s (point_of value p.tableau row) → SuitsAt value task p row s
-suits_here value task row s p is l home okay = λ q j e. subst (λ i. Okay s (point_of value p.tableau i)) (sym (alone value task p row q is l home j e)) okay
+suits_here value task row s p is l own_place okay = λ q j e. subst (λ i. Okay s (point_of value p.tableau i)) (sym (only_place value task p row q is l own_place j e)) okay
 
 -- the value at the place of a row
 pub point_is : {N : Type 0} (value : N → ℚ) (task : Task N) (row : ℕ) (p : Progress N) (x : N) → IsProgress value task p → row < size_of task → x ≡ get_or p.tableau.point.items row x → point_of value p.tableau row ≡ value x
@@ -125,7 +125,7 @@ point_is value task row p x is l here = num-get value p.tableau.point.items row 
 -- a waiting row whose slack has a value that suits
 pub waiting_suits : {N : Type 0} (value : N → ℚ) (task : Task N) (row : ℕ) (s : RowState) (p : Progress N) → IsProgress value task p → row < size_of task → get_or p.states.items row state.Waiting ≡ state.Waiting
     → Okay s (point_of value p.tableau row) → SuitsAt value task p row s
-waiting_suits value task row s p is l waits okay = suits_here value task row s p is l (is.feasible.home row l waits) okay
+waiting_suits value task row s p is l waits okay = suits_here value task row s p is l (is.feasible.own_place row l waits) okay
 
 -- a row that came in force at once
 pub forced_at_once : {N : Type 0} (value : N → ℚ) (task : Task N) (row limit : ℕ) (k : RowKind) (a b : Progress N) (steps : ℕ) → a.pivots ≤ limit → Settles value task row (in_force k) a b → Counts limit a b steps steps × IsInForce value task row k a b
@@ -136,7 +136,7 @@ forced_at_once value task row limit k a b steps l is = (
 
 -- a row is in force after it was driven
 pub forced_after : {N : Type 0} (value : N → ℚ) (task : Task N) (row limit : ℕ) (k : RowKind) (up : Bool) (a b c e : Progress N) (steps steps' : ℕ)
-    → Settles value task row (way up) a b → Keeps value task limit b c steps steps' → Settles value task row (in_force k) c e → Counts limit a e steps steps' × IsInForce value task row k a e
+    → Settles value task row (driven_state_of up) a b → Keeps value task limit b c steps steps' → Settles value task row (in_force k) c e → Counts limit a e steps steps' × IsInForce value task row k a e
 forced_after value task row limit k up a b c e steps steps' first keeps second = (
   record {
     counted = let x = first.pivots in let y = second.pivots in let z = keeps.counted in omega arith;
@@ -144,7 +144,7 @@ forced_after value task row limit k up a b c e steps steps' first keeps second =
   },
   record {
     progress = second.progress;
-    states = second.states ∙ ap (λ v. set v.items row (in_force k)) keeps.states ∙ ap (λ xs. set xs row (in_force k)) first.states ∙ set_twice a.states.items row (way up) (in_force k);
+    states = second.states ∙ ap (λ v. set v.items row (in_force k)) keeps.states ∙ ap (λ xs. set xs row (in_force k)) first.states ∙ set_twice a.states.items row (driven_state_of up) (in_force k);
   },
 )
 
@@ -155,9 +155,9 @@ counts_after value task row limit s a b c steps steps' first keeps = record {
 }
 
 -- the slack of a row that was set going stands at its place
-pub home_after : {N : Type 0} (value : N → ℚ) (task : Task N) (row : ℕ) (s : RowState) (a b c : Progress N) (y : List N) → IsProgress value task a → row < size_of task → get_or a.states.items row state.Waiting ≡ state.Waiting
+pub own_place_after : {N : Type 0} (value : N → ℚ) (task : Task N) (row : ℕ) (s : RowState) (a b c : Progress N) (y : List N) → IsProgress value task a → row < size_of task → get_or a.states.items row state.Waiting ≡ state.Waiting
     → Settles value task row s a b → IsThere value task row b c y → basis_of c.tableau row ≡ task.columns + row
-home_after value task row s a b c y is l waits first there = there.same ∙ ap (λ t. basis_of t row) first.tableau ∙ is.feasible.home row l waits
+own_place_after value task row s a b c y is l waits first there = there.same ∙ ap (λ t. basis_of t row) first.tableau ∙ is.feasible.own_place row l waits
 
 -- and has the state that was set
 pub state_after : {N : Type 0} (value : N → ℚ) (task : Task N) (row limit : ℕ) (s : RowState) (a b c : Progress N) (steps steps' : ℕ) → IsProgress value task a → row < size_of task
@@ -167,39 +167,39 @@ state_after value task row limit s a b c steps steps' is l first keeps =
     ∙ get_or-set_same a.states.items row s state.Waiting (let e = is.states_length in omega arith)
 
 -- the row's state in the drive
-pub driven_state : {N : Type 0} (value : N → ℚ) (task : Task N) (row : ℕ) (up : Bool) (a b : Progress N) → IsProgress value task a → row < size_of task → Settles value task row (way up) a b → get_or b.states.items row state.Waiting ≢ state.AtLeast
+pub driven_state : {N : Type 0} (value : N → ℚ) (task : Task N) (row : ℕ) (up : Bool) (a b : Progress N) → IsProgress value task a → row < size_of task → Settles value task row (driven_state_of up) a b → get_or b.states.items row state.Waiting ≢ state.AtLeast
 driven_state value task row up a b is l first e =
-    way_driven up (sym (get_or-set_same a.states.items row (way up) state.Waiting (let w = is.states_length in omega arith)) ∙ ap (λ xs. get_or xs row state.Waiting) (sym first.states) ∙ e)
+    driven_state_other up (sym (get_or-set_same a.states.items row (driven_state_of up) state.Waiting (let w = is.states_length in omega arith)) ∙ ap (λ xs. get_or xs row state.Waiting) (sym first.states) ∙ e)
 
-limits_by : (up : Bool) (d : ℚ) → Helps up d → Limits (way up) d
+limits_by : (up : Bool) (d : ℚ) → Helps up d → Limits (driven_state_of up) d
 limits_by true d h = h
 limits_by false d h = h
 
 -- where nothing helps any more, in the words of the caller
 pub stuck_after : {N : Type 0} (value : N → ℚ) (task : Task N) (row limit : ℕ) (up : Bool) (a b c : Progress N) (y y' : List N) (steps steps' : ℕ) (d : Driven N) → IsProgress value task a → row < size_of task → get_or a.states.items row state.Waiting ≡ state.Waiting
-    → Settles value task row (way up) a b → Keeps value task limit b c steps steps' → y' ≡ y → d ≡ driven.Stuck → EndsAt value task row up limit b c y d → IsStuck value task row up c y'
+    → Settles value task row (driven_state_of up) a b → Keeps value task limit b c steps steps' → y' ≡ y → d ≡ driven.Stuck → EndsAt value task row up limit b c y d → IsStuck value task row up c y'
 stuck_after value task row limit up a b c y y' steps steps' d is l waits first keeps same stuck ended =
     let end = subst (λ e. EndsAt value task row up limit b c y e) stuck ended in
-    let home = home_after value task row (way up) a b c y is l waits first end.0 in
+    let own_place = own_place_after value task row (driven_state_of up) a b c y is l waits first end.0 in
     record {
       progress = keeps.progress;
-      home = home;
+      own_place = own_place;
       side = subst (λ s. Okay s (point_of value c.tableau row))
-          (ap (state_of task.columns c.states.items) home ∙ state_of-slack task.columns c.states.items row ∙ state_after value task row limit (way up) a b c steps steps' is l first keeps)
+          (ap (state_of task.columns c.states.items) own_place ∙ state_of-slack task.columns c.states.items row ∙ state_after value task row limit (driven_state_of up) a b c steps steps' is l first keeps)
           (keeps.progress.feasible.okay row l);
       is_row = subst (λ z. IsRow value (size_of task) c.tableau row z) (sym same) end.0.is_row;
       extreme = subst (λ z. IsExtreme value task c.states.items z up) (sym same) end.1;
     }
 
 -- it cannot be open: the row itself limits the step
-pub never_open : {N : Type 0} (value : N → ℚ) (task : Task N) (row limit : ℕ) (up : Bool) (a b c : Progress N) (y : List N) (steps steps' entering : ℕ) (made : List (Entry N)) → IsTaskLists task → IsProgress value task a → row < size_of task → get_or a.states.items row state.Waiting ≡ state.Waiting
-    → Settles value task row (way up) a b → Keeps value task limit b c steps steps' → (d : Driven N) → d ≡ driven.Open entering made → EndsAt value task row up limit b c y d → ⊥
-never_open value task row limit up a b c y steps steps' entering made lists is l waits first keeps d open_there ended =
-    let end = subst (λ e. EndsAt value task row up limit b c y e) open_there ended in
-    let there : state_of task.columns c.states.items (basis_of c.tableau row) ≡ way up
-    = ap (state_of task.columns c.states.items) (home_after value task row (way up) a b c y is l waits first end.0) ∙ state_of-slack task.columns c.states.items row
-    ∙ state_after value task row limit (way up) a b c steps steps' is l first keeps in
-    open_blocked value task c y up row entering made lists keeps.progress l end.0.is_row end.1
+pub never_unbounded : {N : Type 0} (value : N → ℚ) (task : Task N) (row limit : ℕ) (up : Bool) (a b c : Progress N) (y : List N) (steps steps' entering : ℕ) (made : List (Entry N)) → IsTaskLists task → IsProgress value task a → row < size_of task → get_or a.states.items row state.Waiting ≡ state.Waiting
+    → Settles value task row (driven_state_of up) a b → Keeps value task limit b c steps steps' → (d : Driven N) → d ≡ driven.Unbounded entering made → EndsAt value task row up limit b c y d → ⊥
+never_unbounded value task row limit up a b c y steps steps' entering made lists is l waits first keeps d unbounded_there ended =
+    let end = subst (λ e. EndsAt value task row up limit b c y e) unbounded_there ended in
+    let there : state_of task.columns c.states.items (basis_of c.tableau row) ≡ driven_state_of up
+    = ap (state_of task.columns c.states.items) (own_place_after value task row (driven_state_of up) a b c y is l waits first end.0) ∙ state_of-slack task.columns c.states.items row
+    ∙ state_after value task row limit (driven_state_of up) a b c steps steps' is l first keeps in
+    unbounded_blocked value task c y up row entering made lists keeps.progress l end.0.is_row end.1
     (λ h. subst (λ s. Limits s (at value made row)) (sym there) (limits_by up (at value made row) h))
 
 others_after : {N : Type 0} (value : N → ℚ) (task : Task N) (row limit : ℕ) (s : RowState) (a b c : Progress N) (steps steps' : ℕ) → Settles value task row s a b → Keeps value task limit b c steps steps'
@@ -209,11 +209,11 @@ others_after value task row limit s a b c steps steps' first keeps i ne =
 
 -- the end of a drive that went no further, as the end of the whole
 pub forced_from : {N : Type 0} (value : N → ℚ) (task : Task N) (row limit : ℕ) (k : RowKind) (up : Bool) (a b c e : Progress N) (steps steps' : ℕ) (o : Option (Blocked N))
-    → Settles value task row (way up) a b → Keeps value task limit b c steps steps' → SettlesOrShows value task row k c e o → ForcesTo value task row k limit a e steps steps' o
+    → Settles value task row (driven_state_of up) a b → Keeps value task limit b c steps steps' → SettlesOrShows value task row k c e o → ForcesTo value task row k limit a e steps steps' o
 forced_from value task row limit k up a b c e steps steps' None first keeps is = forced_after value task row limit k up a b c e steps steps' first keeps is
 forced_from value task row limit k up a b c e steps steps' (Some (blocked.Empty z)) first keeps is =
-    (counts_same (sym is.1), is.0, λ i ne. ap (λ p. get_or p.states.items i state.Waiting) is.1 ∙ others_after value task row limit (way up) a b c steps steps' first keeps i ne)
+    (counts_same (sym is.1), is.0, λ i ne. ap (λ p. get_or p.states.items i state.Waiting) is.1 ∙ others_after value task row limit (driven_state_of up) a b c steps steps' first keeps i ne)
   where
     counts_same : c ≡ e → Counts limit a e steps steps'
-    counts_same same = subst (λ p. Counts limit a p steps steps') same (counts_after value task row limit (way up) a b c steps steps' first keeps)
+    counts_same same = subst (λ p. Counts limit a p steps steps') same (counts_after value task row limit (driven_state_of up) a b c steps steps' first keeps)
 forced_from value task row limit k up a b c e steps steps' (Some blocked.Stalled) first keeps is = absurd is

@@ -58,14 +58,14 @@ module _ (size n r : ℕ) (column : ℕ → ℕ → ℚ) (side : ℕ → ℚ) (b
   -- the sign of y at a row: it prices right, or its slack stands in the basis
   pub row_sign : (up : Bool) (i : ℕ) → i < size → ((Helps up (dot y (column (n + i)) size) → ⊥) ⊎ ((basis i ≡ n + i) × ((i ≢ r) ⊎ (up ≡ true)))) → zero_ℚ ≤ℚ signed up (y i)
   row_sign up i h (inl extreme) = subst (λ q. zero_ℚ ≤ℚ signed up q) (dot_slack size n i column y slacks h) (not_helps up (dot y (column (n + i)) size) extreme)
-  row_sign up i h (inr at_home) =
-      let zero_there : i ≢ r → zero_ℚ ≤ℚ signed up (y i) = λ s. subst (λ q. zero_ℚ ≤ℚ q) (sym (ap (signed up) (row_at_slack i i h h at_home.0 s) ∙ signed-zero up)) (≤ℚ_refl zero_ℚ) in
-      elim at_home.1 [
+  row_sign up i h (inr at_own_place) =
+      let zero_there : i ≢ r → zero_ℚ ≤ℚ signed up (y i) = λ s. subst (λ q. zero_ℚ ≤ℚ q) (sym (ap (signed up) (row_at_slack i i h h at_own_place.0 s) ∙ signed-zero up)) (≤ℚ_refl zero_ℚ) in
+      elim at_own_place.1 [
         | inl s ↦ zero_there s
         | inr e ↦
             let go : Dec (i ≡ r) → zero_ℚ ≤ℚ signed up (y i) = elim [
               | yes same ↦
-                  let one : y i ≡ one_ℚ = row_at_own i h (ap basis (sym same) ∙ at_home.0) in
+                  let one : y i ≡ one_ℚ = row_at_own i h (ap basis (sym same) ∙ at_own_place.0) in
                   subst (λ u. zero_ℚ ≤ℚ signed u (y i)) (sym e) (subst (λ q. zero_ℚ ≤ℚ q) (sym one) (<ℚ-≤ℚ zero_ℚ one_ℚ zero-<ℚ-one))
               | no s ↦ zero_there s
             ] in

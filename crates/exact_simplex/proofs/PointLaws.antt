@@ -7,14 +7,14 @@ use Rattle.exact_num.specs.Sums.{sum_ℚ, sum_ℚ-same, sum_ℚ-scale, sum_ℚ-z
 use Rattle.exact_num.specs.Order.{◌≤ℚ◌, ≤ℚ_refl, sum_ℚ-≤ℚ}
 use Rattle.exact_simplex.specs.Sparse.{at_place}
 use Rattle.exact_simplex.proofs.SparseLaws.{at_place-same, at_place-other}
-use Rattle.exact_simplex.specs.Point.{HasSlacks, spread}
+use Rattle.exact_simplex.specs.Point.{HasSlacks, variable_value}
 
 -- a sum over the places is a sum over the variables
-pub sum_spread : (size variables : ℕ) (basis : ℕ → ℕ) (x f : ℕ → ℚ) → ((p : ℕ) → p < size → basis p < variables)
-    → sum_ℚ (λ v. spread basis x size v *ℚ f v) variables ≡ sum_ℚ (λ p. x p *ℚ f (basis p)) size
-sum_spread size variables basis x f within =
-    sum_ℚ-same (λ v. spread basis x size v *ℚ f v) (λ v. sum_ℚ (λ p. f v *ℚ at_place (basis p) (x p) v) size) variables
-    (λ v l. *ℚ_comm (spread basis x size v) (f v) ∙ sym (sum_ℚ-scale (f v) (λ p. at_place (basis p) (x p) v) size))
+pub sum_variable_value : (size variables : ℕ) (basis : ℕ → ℕ) (x f : ℕ → ℚ) → ((p : ℕ) → p < size → basis p < variables)
+    → sum_ℚ (λ v. variable_value basis x size v *ℚ f v) variables ≡ sum_ℚ (λ p. x p *ℚ f (basis p)) size
+sum_variable_value size variables basis x f within =
+    sum_ℚ-same (λ v. variable_value basis x size v *ℚ f v) (λ v. sum_ℚ (λ p. f v *ℚ at_place (basis p) (x p) v) size) variables
+    (λ v l. *ℚ_comm (variable_value basis x size v) (f v) ∙ sym (sum_ℚ-scale (f v) (λ p. at_place (basis p) (x p) v) size))
     ∙ sum_ℚ-exchanged (λ v p. f v *ℚ at_place (basis p) (x p) v) variables size
     ∙ sum_ℚ-same (λ p. sum_ℚ (λ v. f v *ℚ at_place (basis p) (x p) v) variables) (λ p. x p *ℚ f (basis p)) size
     (λ p l.
@@ -31,19 +31,19 @@ sum-split f n (suc m) =
 -- row k of the point: the columns' part, and its slack
 pub row_of_point : (size n k : ℕ) (column : ℕ → ℕ → ℚ) (basis : ℕ → ℕ) (x : ℕ → ℚ) (side : ℚ) → HasSlacks size n column → k < size
     → ((p : ℕ) → p < size → basis p < n + size) → sum_ℚ (λ p. x p *ℚ column (basis p) k) size ≡ side
-    → sum_ℚ (λ j. spread basis x size j *ℚ column j k) n +ℚ spread basis x size (n + k) ≡ side
+    → sum_ℚ (λ j. variable_value basis x size j *ℚ column j k) n +ℚ variable_value basis x size (n + k) ≡ side
 row_of_point size n k column basis x side slacks l within row =
-    let X = spread basis x size in
+    let X = variable_value basis x size in
     let last : sum_ℚ (λ i. X (n + i) *ℚ column (n + i) k) size ≡ X (n + k)
     = sum_ℚ-one (λ i. X (n + i) *ℚ column (n + i) k) k size l (λ i j s. ap (λ u. X (n + i) *ℚ u) (slacks.other i k j l s) ∙ *ℚ-zero (X (n + i)))
     ∙ ap (λ u. X (n + k) *ℚ u) (slacks.same k l) ∙ *ℚ-one (X (n + k)) in
     ap (λ u. sum_ℚ (λ j. X j *ℚ column j k) n +ℚ u) (sym last) ∙ sym (sum-split (λ v. X v *ℚ column v k) n size)
-    ∙ sum_spread size (n + size) basis x (λ v. column v k) within ∙ row
+    ∙ sum_variable_value size (n + size) basis x (λ v. column v k) within ∙ row
 
 -- ---- signs
-pub spread-nonneg : (size v : ℕ) (basis : ℕ → ℕ) (x : ℕ → ℚ) → ((p : ℕ) → p < size → basis p ≡ v → zero_ℚ ≤ℚ x p) → zero_ℚ ≤ℚ spread basis x size v
-spread-nonneg size v basis x h =
-    subst (λ u. u ≤ℚ spread basis x size v) (sum_ℚ-zero size)
+pub variable_value-nonneg : (size v : ℕ) (basis : ℕ → ℕ) (x : ℕ → ℚ) → ((p : ℕ) → p < size → basis p ≡ v → zero_ℚ ≤ℚ x p) → zero_ℚ ≤ℚ variable_value basis x size v
+variable_value-nonneg size v basis x h =
+    subst (λ u. u ≤ℚ variable_value basis x size v) (sum_ℚ-zero size)
     (sum_ℚ-≤ℚ (λ _. zero_ℚ) (λ p. at_place (basis p) (x p) v) size (λ p l.
     let go : Dec (basis p ≡ v) → zero_ℚ ≤ℚ at_place (basis p) (x p) v = elim [
       | yes e ↦ subst (λ u. zero_ℚ ≤ℚ u) (sym (ap (at_place (basis p) (x p)) (sym e) ∙ at_place-same (basis p) (x p))) (h p l e)
@@ -51,8 +51,8 @@ spread-nonneg size v basis x h =
     ] in
     go (ℕ_discrete (basis p) v)))
 
-pub spread-zero : (size v : ℕ) (basis : ℕ → ℕ) (x : ℕ → ℚ) → ((p : ℕ) → p < size → basis p ≡ v → x p ≡ zero_ℚ) → spread basis x size v ≡ zero_ℚ
-spread-zero size v basis x h =
+pub variable_value-zero : (size v : ℕ) (basis : ℕ → ℕ) (x : ℕ → ℚ) → ((p : ℕ) → p < size → basis p ≡ v → x p ≡ zero_ℚ) → variable_value basis x size v ≡ zero_ℚ
+variable_value-zero size v basis x h =
     sum_ℚ-same (λ p. at_place (basis p) (x p) v) (λ _. zero_ℚ) size (λ p l.
     let go : Dec (basis p ≡ v) → at_place (basis p) (x p) v ≡ zero_ℚ = elim [
       | yes e ↦ ap (at_place (basis p) (x p)) (sym e) ∙ at_place-same (basis p) (x p) ∙ h p l e
@@ -61,7 +61,7 @@ spread-zero size v basis x h =
     go (ℕ_discrete (basis p) v)) ∙ sum_ℚ-zero size
 
 -- a variable that stands at one place
-pub spread-one : (size v r : ℕ) (basis : ℕ → ℕ) (x : ℕ → ℚ) → r < size → basis r ≡ v → ((p : ℕ) → p < size → basis p ≡ v → p ≡ r) → spread basis x size v ≡ x r
-spread-one size v r basis x l here alone =
-    sum_ℚ-one (λ p. at_place (basis p) (x p) v) r size l (λ p j s. at_place-other (basis p) v (x p) (λ e. s (alone p j e)))
+pub variable_value-one : (size v r : ℕ) (basis : ℕ → ℕ) (x : ℕ → ℚ) → r < size → basis r ≡ v → ((p : ℕ) → p < size → basis p ≡ v → p ≡ r) → variable_value basis x size v ≡ x r
+variable_value-one size v r basis x l here only_place =
+    sum_ℚ-one (λ p. at_place (basis p) (x p) v) r size l (λ p j s. at_place-other (basis p) v (x p) (λ e. s (only_place p j e)))
     ∙ ap (at_place (basis r) (x r)) (sym here) ∙ at_place-same (basis r) (x r)

@@ -26,14 +26,14 @@ use Rattle.exact_simplex.proofs.SparseLaws.{sum-at}
 use Rattle.exact_simplex.specs.Dense.{num}
 use Rattle.exact_simplex.specs.Inverse.{inv_of, list_at}
 use Rattle.exact_simplex.proofs.DualityLaws.{ftran_sums}
-use Rattle.exact_simplex.specs.Point.{HasSlacks, spread}
-use Rattle.exact_simplex.proofs.PointLaws.{sum_spread, sum-split, spread-nonneg, spread-zero, spread-one}
+use Rattle.exact_simplex.specs.Point.{HasSlacks, variable_value}
+use Rattle.exact_simplex.proofs.PointLaws.{sum_variable_value, sum-split, variable_value-nonneg, variable_value-zero, variable_value-one}
 use Rattle.exact_simplex.specs.States.{Limits, state_of, in_force}
 use Rattle.exact_simplex.proofs.StatesLaws.{neg_up, neg-zero, neg-positive}
 use Rattle.exact_simplex.proofs.SimplexLaws.{state_of-column, state_of-slack}
 use Rattle.exact_simplex.specs.Enter.{product}
-use Rattle.exact_simplex.specs.Drive.{IsOpen}
-use Rattle.exact_simplex.proofs.DriveLaws.{alone}
+use Rattle.exact_simplex.specs.Drive.{IsUnbounded}
+use Rattle.exact_simplex.proofs.DriveLaws.{only_place}
 use Rattle.exact_simplex.proofs.OptimumLaws.{below_side, meets_side, gain_is}
 use Rattle.exact_simplex.specs.Tableau.{basis_of, inverse_of}
 use Rattle.exact_simplex.specs.Progress.{size_of, column_of, IsProgress, IsRow}
@@ -83,14 +83,14 @@ ray_whole lp xs fits x den a b same xc is =
 -- row k of numbers at places: the columns' part, and the slack's
 row_of_places : (places size n k : ℕ) (column : ℕ → ℕ → ℚ) (variables : ℕ → ℕ) (x : ℕ → ℚ) (side : ℚ) → HasSlacks size n column → k < size
     → ((p : ℕ) → p < places → variables p < n + size) → sum_ℚ (λ p. x p *ℚ column (variables p) k) places ≡ side
-    → sum_ℚ (λ j. spread variables x places j *ℚ column j k) n +ℚ spread variables x places (n + k) ≡ side
+    → sum_ℚ (λ j. variable_value variables x places j *ℚ column j k) n +ℚ variable_value variables x places (n + k) ≡ side
 row_of_places places size n k column variables x side slacks l within row =
-    let X = spread variables x places in
+    let X = variable_value variables x places in
     let last : sum_ℚ (λ i. X (n + i) *ℚ column (n + i) k) size ≡ X (n + k)
     = sum_ℚ-one (λ i. X (n + i) *ℚ column (n + i) k) k size l (λ i j s. ap (λ u. X (n + i) *ℚ u) (slacks.other i k j l s) ∙ *ℚ-zero (X (n + i)))
     ∙ ap (λ u. X (n + k) *ℚ u) (slacks.same k l) ∙ *ℚ-one (X (n + k)) in
     ap (λ u. sum_ℚ (λ j. X j *ℚ column j k) n +ℚ u) (sym last) ∙ sym (sum-split (λ v. X v *ℚ column v k) n size)
-    ∙ sum_spread places (n + size) variables x (λ v. column v k) within ∙ row
+    ∙ sum_variable_value places (n + size) variables x (λ v. column v k) within ∙ row
 
 ends_rows : (k : RowKind) (s : RowState) (a slack : ℚ) → s ≡ in_force k → a +ℚ slack ≡ zero_ℚ → (s ≡ state.AtLeast → zero_ℚ ≤ℚ slack) → (s ≡ state.Zero → slack ≡ zero_ℚ) → MeetsFraction k a zero_ℚ
 ends_rows kind.AtMost s a slack is e sign none = below_side a slack zero_ℚ e (sign is)
@@ -115,7 +115,7 @@ IsAtLeast state.Zero = ⊥
 
 module _ {N : Type 0} (value : N → ℚ) (lp : Lp) (task : Task N) (p : Progress N) (y : List N) (entering : ℕ) (made : List (Entry N)) (b : ℕ → ℕ) (x : ℕ → ℚ)
     (describes : Describes value lp task) (is : IsProgress value task p) (settled : AreSettled lp p.states.items) (row : IsRow value (size_of task) p.tableau (length lp.rows) y)
-    (free : IsOpen value task p y true entering made)
+    (free : IsUnbounded value task p y true entering made)
     (places : (q : ℕ) → q < size_of task → b q ≡ basis_of p.tableau q) (last : b (size_of task) ≡ entering)
     (steps : (q : ℕ) → q < size_of task → x q ≡ neg_ℚ (at value made q)) (one : x (size_of task) ≡ one_ℚ) where
   below_all : entering < task.columns + size_of task
@@ -146,7 +146,7 @@ module _ {N : Type 0} (value : N → ℚ) (lp : Lp) (task : Task N) (p : Progres
       ∙ ap neg_ℚ (one-*ℚ (sum_ℚ (λ q. at value made q *ℚ c (basis_of p.tableau q) k) size) ∙ made_of k l))
       ∙ +ℚ_comm (neg_ℚ w) w ∙ +ℚ-neg w
 
-  row_is : (k : ℕ) → k < size_of task → sum_ℚ (λ j. spread b x (size_of task + 1) j *ℚ column_of value task j k) task.columns +ℚ spread b x (size_of task + 1) (task.columns + k) ≡ zero_ℚ
+  row_is : (k : ℕ) → k < size_of task → sum_ℚ (λ j. variable_value b x (size_of task + 1) j *ℚ column_of value task j k) task.columns +ℚ variable_value b x (size_of task + 1) (task.columns + k) ≡ zero_ℚ
   row_is k l = row_of_places (size_of task + 1) (size_of task) task.columns k (column_of value task) b x zero_ℚ describes.slacks l
       (λ q j. elim (last_or q j) [
         | inl h ↦ subst (λ v. v < task.columns + size_of task) (sym (places q h)) (is.within q h)
@@ -157,8 +157,8 @@ module _ {N : Type 0} (value : N → ℚ) (lp : Lp) (task : Task N) (p : Progres
   free_at : (q : ℕ) (s : RowState) → q < size_of task → state_of task.columns p.states.items (b q) ≡ s → Limits s (at value made q) → ⊥
   free_at q s l e h = free.free q l (subst (λ u. Limits u (at value made q)) (sym (ap (state_of task.columns p.states.items) (sym (places q l)) ∙ e)) h)
 
-  sign_of : (v : ℕ) → state_of task.columns p.states.items v ≡ state.AtLeast → zero_ℚ ≤ℚ spread b x (size_of task + 1) v
-  sign_of v at_least = spread-nonneg (size_of task + 1) v b x (λ q j e. elim (last_or q j) [
+  sign_of : (v : ℕ) → state_of task.columns p.states.items v ≡ state.AtLeast → zero_ℚ ≤ℚ variable_value b x (size_of task + 1) v
+  sign_of v at_least = variable_value-nonneg (size_of task + 1) v b x (λ q j e. elim (last_or q j) [
     | inl h ↦ subst (λ u. zero_ℚ ≤ℚ u) (sym (steps q h)) (free_up (at value made q) (free_at q state.AtLeast h (ap (state_of task.columns p.states.items) e ∙ at_least)))
     | inr h ↦ subst (λ u. zero_ℚ ≤ℚ u) (sym (ap x h ∙ one)) (<ℚ-≤ℚ zero_ℚ one_ℚ zero-<ℚ-one)
   ])
@@ -167,20 +167,20 @@ module _ {N : Type 0} (value : N → ℚ) (lp : Lp) (task : Task N) (p : Progres
   not_entering : (v q : ℕ) (s : RowState) → (state.AtLeast ≡ s → ⊥) → state_of task.columns p.states.items v ≡ s → q ≡ size_of task → b q ≡ v → ⊥
   not_entering v q s apart is_s h e = apart (sym free.helps.may ∙ ap (state_of task.columns p.states.items) (sym last ∙ ap b (sym h) ∙ e) ∙ is_s)
 
-  none_of : (v : ℕ) → state_of task.columns p.states.items v ≡ state.Zero → spread b x (size_of task + 1) v ≡ zero_ℚ
-  none_of v zero_state = spread-zero (size_of task + 1) v b x (λ q j e. elim (last_or q j) [
+  none_of : (v : ℕ) → state_of task.columns p.states.items v ≡ state.Zero → variable_value b x (size_of task + 1) v ≡ zero_ℚ
+  none_of v zero_state = variable_value-zero (size_of task + 1) v b x (λ q j e. elim (last_or q j) [
     | inl h ↦ steps q h ∙ free_zero (at value made q) (free_at q state.Zero h (ap (state_of task.columns p.states.items) e ∙ zero_state))
     | inr h ↦ absurd (not_entering v q state.Zero (λ f. subst (λ s. IsAtLeast s) f tt) zero_state h e)
   ])
 
-  home : basis_of p.tableau (length lp.rows) ≡ task.columns + length lp.rows
-  home = is.feasible.home (length lp.rows) m_below settled.gain
+  own_place : basis_of p.tableau (length lp.rows) ≡ task.columns + length lp.rows
+  own_place = is.feasible.own_place (length lp.rows) m_below settled.gain
 
-  gain_step : spread b x (size_of task + 1) (task.columns + length lp.rows) ≡ neg_ℚ (at value made (length lp.rows))
+  gain_step : variable_value b x (size_of task + 1) (task.columns + length lp.rows) ≡ neg_ℚ (at value made (length lp.rows))
   gain_step =
-      spread-one (size_of task + 1) (task.columns + length lp.rows) (length lp.rows) b x (omega arith) (places (length lp.rows) m_below ∙ home)
+      variable_value-one (size_of task + 1) (task.columns + length lp.rows) (length lp.rows) b x (omega arith) (places (length lp.rows) m_below ∙ own_place)
       (λ q j e. elim (last_or q j) [
-        | inl h ↦ alone value task p (length lp.rows) q is m_below home h (sym (places q h) ∙ e)
+        | inl h ↦ only_place value task p (length lp.rows) q is m_below own_place h (sym (places q h) ∙ e)
         | inr h ↦ absurd (not_entering (task.columns + length lp.rows) q state.Waiting (λ f. subst (λ s. IsAtLeast s) f tt) (state_of-slack task.columns p.states.items (length lp.rows) ∙ settled.gain) h e)
       ]) ∙ steps (length lp.rows) m_below
 
@@ -191,9 +191,9 @@ module _ {N : Type 0} (value : N → ℚ) (lp : Lp) (task : Task N) (p : Progres
       ∙ sum_ℚ-same (λ k. num value y k *ℚ at value column k) (λ k. inv_of value p.tableau.inverse.items k (length lp.rows) *ℚ at value column k) (size_of task) (λ k j. ap (λ u. u *ℚ at value column k) (row.same k j))
       ∙ made_is value (size_of task) p.tableau.inverse.items column made (describes.lists.below entering below_all) free.makes (length lp.rows)
 
-  pub ray_shows : IsRayFraction lp (spread b x (size_of task + 1))
+  pub ray_shows : IsRayFraction lp (variable_value b x (size_of task + 1))
   ray_shows =
-      let X = spread b x (size_of task + 1) in
+      let X = variable_value b x (size_of task + 1) in
       let n = task.columns in
       record {
         sign = λ j l. sign_of j (state_of-column n p.states.items j (let c = describes.columns in omega arith));

@@ -55,13 +55,13 @@ module _ (size n v : ℕ) (states : List RowState) (basis basis' : ℕ → ℕ) 
                   (stays (state_of n states (basis p)) (x p) (d p) step (was.okay p l) forward (leaves.least p l)))
             ] in
             go (ℕ_discrete p place);
-        home = λ i l waits.
+        own_place = λ i l waits.
             let go : Dec (i ≡ place) → basis' i ≡ n + i = elim [
               | yes e ↦
                   let waiting : state_of n states (basis place) ≡ state.Waiting
-                  = ap (λ q. state_of n states (basis q)) (sym e) ∙ ap (state_of n states) (was.home i l waits) ∙ state_of-slack n states i ∙ waits in
+                  = ap (λ q. state_of n states (basis q)) (sym e) ∙ ap (state_of n states) (was.own_place i l waits) ∙ state_of-slack n states i ∙ waits in
                   absurd (waiting_free (state_of n states (basis place)) (d place) waiting leaves.limits)
-              | no ne ↦ others i l ne ∙ was.home i l waits
+              | no ne ↦ others i l ne ∙ was.own_place i l waits
             ] in
             go (ℕ_discrete i place);
       }
@@ -76,10 +76,10 @@ feasible_settled size n r states s basis x l some suits was = record {
         | no ne ↦ subst (λ u. Okay u (x p)) (sym (other_state (basis p) ne)) (was.okay p j)
       ] in
       go (ℕ_discrete (basis p) (n + r));
-  home = λ i j waits.
+  own_place = λ i j waits.
       let go : Dec (i ≡ r) → basis i ≡ n + i = elim [
         | yes e ↦ absurd (some (sym (ap (λ k. get_or (set states r s) k state.Waiting) e ∙ get_or-set_same states r s state.Waiting l) ∙ waits))
-        | no ne ↦ was.home i j (sym (get_or-set_other states r i s state.Waiting ne) ∙ waits)
+        | no ne ↦ was.own_place i j (sym (get_or-set_other states r i s state.Waiting ne) ∙ waits)
       ] in
       go (ℕ_discrete i r);
 

@@ -13,12 +13,12 @@ use Rattle.exact_simplex.specs.declared.state.RowState.TheVariants as state
 use Rattle.exact_simplex.specs.Start.{IsUnit}
 
 module _ (size n : ℕ) (column : ℕ → ℕ → ℚ) (side : ℕ → ℚ) (basis : ℕ → ℕ) (inv : ℕ → ℕ → ℚ) (x : ℕ → ℚ)
-    (slacks : HasSlacks size n column) (unit : IsUnit size inv) (at_home : (p : ℕ) → p < size → basis p ≡ n + p) (values : (p : ℕ) → p < size → x p ≡ side p) where
+    (slacks : HasSlacks size n column) (unit : IsUnit size inv) (at_own_place : (p : ℕ) → p < size → basis p ≡ n + p) (values : (p : ℕ) → p < size → x p ≡ side p) where
   there : (p k : ℕ) → p < size → k < size → p ≢ k → column (basis p) k ≡ zero_ℚ
-  there p k l j s = ap (λ v. column v k) (at_home p l) ∙ slacks.other p k l j s
+  there p k l j s = ap (λ v. column v k) (at_own_place p l) ∙ slacks.other p k l j s
 
   here : (p : ℕ) → p < size → column (basis p) p ≡ one_ℚ
-  here p l = ap (λ v. column v p) (at_home p l) ∙ slacks.same p l
+  here p l = ap (λ v. column v p) (at_own_place p l) ∙ slacks.same p l
 
   pub start_basis : IsBasis size column side basis inv x
   start_basis = record {
@@ -35,6 +35,6 @@ module _ (size n : ℕ) (column : ℕ → ℕ → ℚ) (side : ℕ → ℚ) (bas
 
   pub start_feasible : (states : List RowState) → ((i : ℕ) → i < size → get_or states i state.Waiting ≡ state.Waiting) → IsFeasible size n states basis x
   start_feasible states wait = record {
-    okay = λ p l. subst (λ s. Okay s (x p)) (sym (ap (state_of n states) (at_home p l) ∙ state_of-slack n states p ∙ wait p l)) tt;
-    home = λ i l _. at_home i l;
+    okay = λ p l. subst (λ s. Okay s (x p)) (sym (ap (state_of n states) (at_own_place p l) ∙ state_of-slack n states p ∙ wait p l)) tt;
+    own_place = λ i l _. at_own_place i l;
   }

@@ -8,7 +8,7 @@ use Rattle.exact_num.specs.Order.{◌≤ℚ◌, ◌<ℚ◌, ≤ℚ-<ℚ}
 use Rattle.exact_num.specs.Whole.{int_ℚ}
 use Rattle.exact_simplex.specs.Pivot.{dot}
 use Rattle.exact_simplex.specs.Dense.{num}
-use Rattle.exact_simplex.specs.States.{Okay, way, state_of, in_force}
+use Rattle.exact_simplex.specs.States.{Okay, driven_state_of, state_of, in_force}
 use Rattle.exact_simplex.proofs.StatesLaws.{neg-≤ℚ, neg-zero, neg-some}
 use Rattle.exact_simplex.proofs.SimplexLaws.{state_of-column, state_of-slack}
 use Rattle.exact_simplex.specs.Enter.{Helps}
@@ -34,7 +34,7 @@ use Rattle.exact_simplex.specs.declared.state.RowState.{RowState}
 use Rattle.exact_simplex.specs.declared.state.RowState.TheVariants as state
 
 -- a row that bounds its sum is in force, or its slack stands at its own place
-pub record AreAtHome {N : Type 0} (lp : Lp) (task : Task N) (r : ℕ) (up : Bool) (p : Progress N) : Type 0 where
+pub record AreAtOwnPlaces {N : Type 0} (lp : Lp) (task : Task N) (r : ℕ) (up : Bool) (p : Progress N) : Type 0 where
   pub rows : (i : ℕ) → i < length lp.rows → (row_at lp i).kind ≡ kind.AtMost → (get_or p.states.items i state.Waiting ≡ state.AtLeast) ⊎ ((basis_of p.tableau i ≡ task.columns + i) × ((i ≢ r) ⊎ (up ≡ true)))
   pub gain : get_or p.states.items (length lp.rows) state.Waiting ≡ state.Waiting
 
@@ -43,13 +43,13 @@ signs_by kind.AtMost y h = h refl
 signs_by kind.Equal y h = tt
 
 -- a number on the way to 0, taken with its sign
-signed_less : (up : Bool) (x : ℚ) → Okay (way up) x → x ≢ zero_ℚ → signed up x <ℚ zero_ℚ
+signed_less : (up : Bool) (x : ℚ) → Okay (driven_state_of up) x → x ≢ zero_ℚ → signed up x <ℚ zero_ℚ
 signed_less true x h some = ≤ℚ-<ℚ x zero_ℚ h some
 signed_less false x h some = ≤ℚ-<ℚ (neg_ℚ x) zero_ℚ (subst (λ u. neg_ℚ x ≤ℚ u) neg-zero (neg-≤ℚ zero_ℚ x h)) (neg-some x some)
 
-pub stuck_shows : {N : Type 0} (value : N → ℚ) (lp : Lp) (task : Task N) (p : Progress N) (r : ℕ) (up : Bool) (y z : List N) → Describes value lp task → AreAtHome lp task r up p → r < length lp.rows
+pub stuck_shows : {N : Type 0} (value : N → ℚ) (lp : Lp) (task : Task N) (p : Progress N) (r : ℕ) (up : Bool) (y z : List N) → Describes value lp task → AreAtOwnPlaces lp task r up p → r < length lp.rows
     → IsStuck value task r up p y → point_of value p.tableau r ≢ zero_ℚ → ((k : ℕ) → k < size_of task → num value z k ≡ signed up (num value y k)) → ShowsEmptyFraction lp (num value z)
-stuck_shows value lp task p r up y z describes homes l stuck some same =
+stuck_shows value lp task p r up y z describes own_places l stuck some same =
     let size = size_of task in
     let n = task.columns in
     let m = length lp.rows in
@@ -57,9 +57,9 @@ stuck_shows value lp task p r up y z describes homes l stuck some same =
     let Y = num value y in
     let m_below : m < size = let e = describes.size in omega arith in
     let r_below : r < size = let e = describes.size in omega arith in
-    let home : basis_of p.tableau m ≡ n + m = is.feasible.home m m_below homes.gain in
+    let own_place : basis_of p.tableau m ≡ n + m = is.feasible.own_place m m_below own_places.gain in
     let none : Y m ≡ zero_ℚ
-    = row_at_slack size n r (column_of value task) (side_of value task) (basis_of p.tableau) (inverse_of value p.tableau) (point_of value p.tableau) Y describes.slacks is.basis r_below stuck.is_row.same m m m_below m_below home (λ e. absurd (omega arith)) in
+    = row_at_slack size n r (column_of value task) (side_of value task) (basis_of p.tableau) (inverse_of value p.tableau) (point_of value p.tableau) Y describes.slacks is.basis r_below stuck.is_row.same m m m_below m_below own_place (λ e. absurd (omega arith)) in
     let helps : (v : ℕ) → v < n + size → state_of n p.states.items v ≡ state.AtLeast → Helps up (dot Y (column_of value task v) size) → ⊥
     = λ v k may h. stuck.extreme v (let e = describes.lists.each in omega arith) (record { may = may; helps = subst (λ q. Helps up q) (sym (product_is value task y v describes.lists k)) h }) in
     let split : (a b : ℕ → ℚ) → ((i : ℕ) → i < m → a i ≡ b i) → signed up (dot Y a size) ≡ sum_ℚ (λ i. num value z i *ℚ b i) m
@@ -72,9 +72,9 @@ stuck_shows value lp task p r up y z describes homes l stuck some same =
           let j : i < size = let e = describes.size in omega arith in
           subst (λ q. zero_ℚ ≤ℚ q) (sym (same i j))
           (row_sign size n r (column_of value task) (side_of value task) (basis_of p.tableau) (inverse_of value p.tableau) (point_of value p.tableau) Y describes.slacks is.basis r_below stuck.is_row.same up i j
-          (elim (homes.rows i k bounds) [
+          (elim (own_places.rows i k bounds) [
             | inl forced ↦ inl (helps (n + i) (omega arith) (state_of-slack n p.states.items i ∙ forced))
-            | inr at_home ↦ inr at_home
+            | inr at_own_place ↦ inr at_own_place
           ])));
       columns = λ j k.
           let i : j < n = let c = describes.columns in omega arith in
@@ -96,22 +96,22 @@ force_by k e = ap in_force e
 pub none_shows : {N : Type 0} (value : N → ℚ) (lp : Lp) (task : Task N) (old p : Progress N) (r : ℕ) (k : RowKind) (z : List N) → Describes value lp task → r < length lp.rows → k ≡ (row_at lp r).kind
     → AreForced lp old.states.items r → OthersKept r old p → ShowsNone value task r k p z → ShowsEmptyFraction lp (num value z)
 none_shows value lp task old p r k z describes l kind_is forced kept shows =
-    stuck_shows value lp task p r shows.up shows.y z describes homes l shows.stuck shows.some (λ j h. shows.shown.same j (let e = shows.stuck.is_row.one_each in omega arith))
+    stuck_shows value lp task p r shows.up shows.y z describes own_places l shows.stuck shows.some (λ j h. shows.shown.same j (let e = shows.stuck.is_row.one_each in omega arith))
   where
     lt_or_le : (a b : ℕ) → (a < b) ⊎ (b ≤ a)
     lt_or_le a b = search (arith)
 
-    home : (i : ℕ) → i < size_of task → get_or p.states.items i state.Waiting ≡ state.Waiting → basis_of p.tableau i ≡ task.columns + i
-    home i h w = shows.stuck.progress.feasible.home i h w
+    own_place : (i : ℕ) → i < size_of task → get_or p.states.items i state.Waiting ≡ state.Waiting → basis_of p.tableau i ≡ task.columns + i
+    own_place i h w = shows.stuck.progress.feasible.own_place i h w
 
-    homes : AreAtHome lp task r shows.up p
-    homes = record {
+    own_places : AreAtOwnPlaces lp task r shows.up p
+    own_places = record {
       rows = λ i h bounds.
           let go : Dec (i ≡ r) → (get_or p.states.items i state.Waiting ≡ state.AtLeast) ⊎ ((basis_of p.tableau i ≡ task.columns + i) × ((i ≢ r) ⊎ (shows.up ≡ true))) = elim [
-            | yes e ↦ inr (ap (basis_of p.tableau) e ∙ shows.stuck.home ∙ ap (λ q. task.columns + q) (sym e), inr (up_by k shows.up (kind_is ∙ ap (λ q. (row_at lp q).kind) (sym e) ∙ bounds) shows.goes))
+            | yes e ↦ inr (ap (basis_of p.tableau) e ∙ shows.stuck.own_place ∙ ap (λ q. task.columns + q) (sym e), inr (up_by k shows.up (kind_is ∙ ap (λ q. (row_at lp q).kind) (sym e) ∙ bounds) shows.goes))
             | no ne ↦ elim (lt_or_le i r) [
               | inl before ↦ inl (kept i ne ∙ forced.done i before ∙ force_by (row_at lp i).kind bounds)
-              | inr behind ↦ inr (home i (let e = describes.size in omega arith) (kept i ne ∙ forced.ahead i behind), inl ne)
+              | inr behind ↦ inr (own_place i (let e = describes.size in omega arith) (kept i ne ∙ forced.ahead i behind), inl ne)
             ]
           ] in
           go (ℕ_discrete i r);

@@ -5,7 +5,7 @@ use Rattle.exact_simplex.specs.declared.sparse.Entry.{Entry}
 use Rattle.exact_simplex.specs.declared.progress.Task.{Task}
 use Rattle.exact_simplex.specs.declared.progress.Progress.{Progress}
 use Rattle.exact_simplex.specs.Dense.{num}
-use Rattle.exact_simplex.specs.Point.{spread}
+use Rattle.exact_simplex.specs.Point.{variable_value}
 use Rattle.exact_simplex.specs.Progress.{size_of}
 use Rattle.exact_simplex.specs.Sparse.{at}
 use Rattle.exact_simplex.specs.Tableau.{basis_of}
@@ -28,7 +28,7 @@ pub record IsDirection {N : Type 0} (value : N → ℚ) (task : Task N) (p : Pro
   pub variables : ℕ → ℕ
   pub steps : ℕ → ℚ
   pub one_each : length values ≡ task.columns
-  pub same : (v : ℕ) → v < task.columns → num value values v ≡ spread variables steps (size_of task + 1) v
+  pub same : (v : ℕ) → v < task.columns → num value values v ≡ variable_value variables steps (size_of task + 1) v
   pub places : (q : ℕ) → q < size_of task → variables q ≡ basis_of p.tableau q
   pub last : variables (size_of task) ≡ entering
   pub falls : (q : ℕ) → q < size_of task → steps q ≡ neg_ℚ (at value made q)

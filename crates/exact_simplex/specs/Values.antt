@@ -4,7 +4,7 @@ use Rattle.std.proofs.Common.{get_or}
 use Rattle.exact_num.specs.Q.{ℚ}
 use Rattle.exact_num.specs.Ops.{◌+ℚ◌}
 use Rattle.exact_simplex.specs.Dense.{num}
-use Rattle.exact_simplex.specs.Point.{spread}
+use Rattle.exact_simplex.specs.Point.{variable_value}
 use Rattle.exact_simplex.specs.Sparse.{at_place}
 
 -- a number was added to the value of a variable, where that is one of the columns
@@ -14,7 +14,7 @@ pub record AddsValue {N : Type 0} (value : N → ℚ) (old : List N) (variable :
 -- the values that the first numbers give
 pub record AreValuesTo {N : Type 0} (value : N → ℚ) (columns : ℕ) (variables : List ℕ) (numbers : List N) (count : ℕ) (values : List N) : Type 0 where
   pub one_each : length values ≡ columns
-  pub same : (v : ℕ) → v < columns → num value values v ≡ spread (λ p. get_or variables p 0) (num value numbers) count v
+  pub same : (v : ℕ) → v < columns → num value values v ≡ variable_value (λ p. get_or variables p 0) (num value numbers) count v
 
 abbrev pub AreValues : {N : Type 0} → (N → ℚ) → ℕ → List ℕ → List N → List N → Type 0
 AreValues value columns variables numbers values = AreValuesTo value columns variables numbers (length variables) values

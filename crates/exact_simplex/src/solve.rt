@@ -4,7 +4,7 @@ ghost use Rattle.exact_simplex.specs.Enter.{IsExtreme};
 ghost use Rattle.exact_simplex.specs.Ray.{IsDirection};
 ghost use Rattle.exact_simplex.specs.Sparse.{PlacesBelow};
 ghost use Rattle.exact_simplex.specs.Answer.{Answers, AnswersBest, Concludes, ConcludesAfter};
-ghost use Rattle.exact_simplex.specs.Drive.{IsOpen};
+ghost use Rattle.exact_simplex.specs.Drive.{IsUnbounded};
 ghost use Rattle.exact_simplex.specs.Ends.{Ends};
 ghost use Rattle.exact_simplex.specs.Final.{Describes, AreSettled};
 ghost use Rattle.exact_simplex.specs.Progress.{IsProgress, IsRow, size_of, IsTaskLists};
@@ -104,7 +104,7 @@ fn raise_gain<A: Arith, L: Ledger>(
     )? {
         Driven::Left => unreachable!(),
         Driven::Stuck => best_point(alloc, arith, lp, task, progress, &y),
-        Driven::Open { entering, made } => {
+        Driven::Unbounded { entering, made } => {
             let x = direction(alloc, arith, task, progress, entering, made.as_slice())?;
             ray(alloc, arith, lp, &x)
         }

@@ -9,7 +9,7 @@ set_state-requires-clause-suits g c =
     let p = c.args.progress.now in
     let end = c.requires.end in
     subst (λ s. SuitsAt value c.args.task.now p c.args.row s) (sym c.state_in_force.ensures)
-    (suits_here value c.args.task.now c.args.row _ p end.progress c.requires.row end.home (okay_zero c.args.kind _ (point_is value c.args.task.now c.args.row p c.index.result.now end.progress c.requires.row c.index.ensures ∙ c.if-is_zero.ensures)))
+    (suits_here value c.args.task.now c.args.row _ p end.progress c.requires.row end.own_place (okay_zero c.args.kind _ (point_is value c.args.task.now c.args.row p c.index.result.now end.progress c.requires.row c.index.ensures ∙ c.if-is_zero.ensures)))
 
 pub returns : goal.returns
 returns g c =

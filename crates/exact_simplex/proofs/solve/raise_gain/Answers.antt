@@ -7,7 +7,7 @@ use Rattle.exact_simplex.specs.Ray.{IsDirection, IsRayFraction}
 use Rattle.exact_simplex.specs.Sparse.{PlacesBelow}
 use Rattle.exact_simplex.proofs.SparseLaws.{places-below}
 use Rattle.exact_simplex.proofs.TableauLaws.{written}
-use Rattle.exact_simplex.proofs.AnswerLemmas.{gain_stays, settled_after, stuck_gain, open_gain, ray_from}
+use Rattle.exact_simplex.proofs.AnswerLemmas.{gain_stays, settled_after, stuck_gain, unbounded_gain, ray_from}
 use Rattle.exact_simplex.proofs.solve.raise_gain.Goals as goal
 
 pub unreachable-requires : goal.unreachable-requires
@@ -29,18 +29,18 @@ pub direction-requires-clause-made : goal.direction-requires-clause-made
 direction-requires-clause-made g c =
     let value = g.A.Num.Fraction.value in
     let t = c.args.task.now in
-    let end = open_gain value c.args.lp.now t c.args.limit c.args.progress.now c.drive.new.progress c.drive.new.y c.in_ok-drive.field-0 c.in-Open.entering c.in-Open.made c.in-Open.is
+    let end = unbounded_gain value c.args.lp.now t c.args.limit c.args.progress.now c.drive.new.progress c.drive.new.y c.in_ok-drive.field-0 c.in-Unbounded.entering c.in-Unbounded.made c.in-Unbounded.is
     (subst (λ r. EndsAt value t r true c.args.limit c.args.progress.now c.drive.new.progress c.drive.new.y c.in_ok-drive.field-0) c.len-row.ensures c.in_ok-drive.ensures.1.1) in
-    subst (λ xs. PlacesBelow (size_of t) xs) (sym c.as_slice.ensures) (places-below 0 (size_of t) c.in-Open.made (end.1.makes.rises (size_of t) c.in_ok-drive.ensures.1.0.progress.shape.rises))
+    subst (λ xs. PlacesBelow (size_of t) xs) (sym c.as_slice.ensures) (places-below 0 (size_of t) c.in-Unbounded.made (end.1.makes.rises (size_of t) c.in_ok-drive.ensures.1.0.progress.shape.rises))
 
 pub ray-requires-clause-shows : goal.ray-requires-clause-shows
 ray-requires-clause-shows g c =
     let value = g.A.Num.Fraction.value in
     let t = c.args.task.now in
     let keeps = c.in_ok-drive.ensures.1.0 in
-    let end = open_gain value c.args.lp.now t c.args.limit c.args.progress.now c.drive.new.progress c.drive.new.y c.in_ok-drive.field-0 c.in-Open.entering c.in-Open.made c.in-Open.is
+    let end = unbounded_gain value c.args.lp.now t c.args.limit c.args.progress.now c.drive.new.progress c.drive.new.y c.in_ok-drive.field-0 c.in-Unbounded.entering c.in-Unbounded.made c.in-Unbounded.is
     (subst (λ r. EndsAt value t r true c.args.limit c.args.progress.now c.drive.new.progress c.drive.new.y c.in_ok-drive.field-0) c.len-row.ensures c.in_ok-drive.ensures.1.1) in
-    subst (λ xs. IsRayFraction c.args.lp.now (num value xs)) (sym c.deref-in-Open.ensures.value)
-    (ray_from value c.args.lp.now t c.drive.new.progress c.drive.new.y c.in-Open.entering c.in-Open.made c.in_ok-x-in-Open.x.items c.requires.describes keeps.progress
+    subst (λ xs. IsRayFraction c.args.lp.now (num value xs)) (sym c.deref-in-Unbounded.ensures.value)
+    (ray_from value c.args.lp.now t c.drive.new.progress c.drive.new.y c.in-Unbounded.entering c.in-Unbounded.made c.in_ok-x-in-Unbounded.x.items c.requires.describes keeps.progress
     (settled_after value c.args.lp.now t c.args.limit c.args.progress.now c.drive.new.progress c.args.steps.now c.drive.new.steps c.requires.settled keeps) end.0 end.1
-    (subst (λ m. IsDirection value t c.drive.new.progress c.in-Open.entering m c.in_ok-x-in-Open.x.items) c.as_slice.ensures c.in_ok-x-in-Open.ensures.1))
+    (subst (λ m. IsDirection value t c.drive.new.progress c.in-Unbounded.entering m c.in_ok-x-in-Unbounded.x.items) c.as_slice.ensures c.in_ok-x-in-Unbounded.ensures.1))
