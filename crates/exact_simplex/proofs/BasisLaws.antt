@@ -40,7 +40,6 @@ pivoted_by size r d d' x x' t l at_r off share moved = record {
       ∙ ap (λ u. x r +ℚ u) (*ℚ-+ℚ (neg_ℚ t) (d r) (neg_ℚ one_ℚ) ∙ ap₂ (λ u w. u +ℚ w) (neg-*ℚ t (d r) ∙ ap neg_ℚ share) (twice t))
       ∙ sym (+ℚ_assoc (x r) (neg_ℚ (x r)) t) ∙ ap (λ u. u +ℚ t) (+ℚ-neg (x r)) ∙ zero_first t;
   others = λ p i u. moved p i ∙ ap (λ y. x p +ℚ neg_ℚ t *ℚ y) (off p u);
-
 }
   where
     zero_first : (a : ℚ) → zero_ℚ +ℚ a ≡ a

@@ -39,7 +39,6 @@ adds_entry value old column place x list e l here is was = record {
         | no ne ↦ subst (λ xs. PlacesBelow m xs) (sym (get_or-set_other old column v (list ++ e ∷ []) [] ne)) (all v (let w = length-set old column (list ++ e ∷ []) in omega arith))
       ] in
       go (ℕ_discrete v column);
-
 }
 
 int_picked : (b : Bool) (a : ℤ) → int_ℚ (picked b a) ≡ (if b then int_ℚ a else zero_ℚ)
@@ -70,7 +69,6 @@ row_more_entry value old place entries i e mid new l is added so = record {
       ap (λ a. a +ℚ at_place place (int_ℚ rest) k) (added.sums v k (let w = so.same_length in omega arith)) ∙ +ℚ_assoc (inv_of value mid v k) here (at_place place (int_ℚ rest) k)
       ∙ ap (λ a. inv_of value mid v k +ℚ a) (sym both) ∙ so.sums v k j;
   below = λ m h all. added.below m h (so.below m h all);
-
 }
 
 pub row_end_entries : {N : Type 0} (value : N → ℚ) (old : List (List (Entry N))) (place : ℕ) (entries : List (ℕ × ℤ)) (i : ℕ) (new : List (List (Entry N))) → length entries ≤ i → RowSoFar value old place entries i new → AddsRow value old place entries new
@@ -80,7 +78,6 @@ row_end_entries value old place entries i new l so = record {
       sym (ap (λ xs. inv_of value new v k +ℚ at_place place (int_ℚ (coefficient xs v)) k) (drop_of_length-le entries l)
       ∙ ap (λ a. inv_of value new v k +ℚ at_place place a k) int_ℚ-zero ∙ ap (λ a. inv_of value new v k +ℚ a) (at_place-zero place k) ∙ +ℚ-zero (inv_of value new v k)) ∙ so.sums v k j;
   below = so.below;
-
 }
 
 pub column-at : (n : ℕ) (es : List (ℕ × ℤ)) (i : ℕ) (e : ℕ × ℤ) → ColumnsBelow n es → i < length es → e ≡ get_or es i e → e.0 < n

@@ -37,7 +37,6 @@ keeps_then value task limit a b c s t u first second = record {
   states = second.states ∙ first.states;
   counted = let x = first.counted in let y = second.counted in omega arith;
   within = second.within;
-
 }
 
 pub keeps_advance : {N : Type 0} (value : N → ℚ) (task : Task N) (row entering place limit : ℕ) (old new : Progress N) (y : List N) (steps steps' : ℕ) → Advances value task row entering place old new y steps steps' → old.pivots < limit → Keeps value task limit old new steps steps'
@@ -46,7 +45,6 @@ keeps_advance value task row entering place limit old new y steps steps' is l = 
   states = is.states;
   counted = let x = is.counted in let z = is.pivots in omega arith;
   within = let z = is.pivots in omega arith;
-
 }
 
 pub ends_later : {N : Type 0} (value : N → ℚ) (task : Task N) (row : ℕ) (up : Bool) (limit : ℕ) (a b c : Progress N) (y y' : List N) (d : Driven N) → IsThere value task row a b y → EndsAt value task row up limit b c y' d → EndsAt value task row up limit a c y' d

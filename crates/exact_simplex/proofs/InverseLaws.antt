@@ -51,7 +51,6 @@ row_none value inverse p u row k none so = record {
       ] in
       go (ℕ_discrete j k);
   rises = rises-to 0 k (k + 1) row (omega arith) so.rises;
-
 }
 
 pub row_one : {N : Type 0} (value : N → ℚ) (inverse : List (List (Entry N))) (p : ℕ) (u : ℚ) (row : List (Entry N)) (e : Entry N) → value e.number ≡ inv_of value inverse e.place p *ℚ u → RowSoFar value inverse p u row e.place → RowSoFar value inverse p u (row ++ e ∷ []) (e.place + 1)
@@ -65,7 +64,6 @@ row_one value inverse p u row e is so = record {
       ] in
       go (ℕ_discrete j e.place);
   rises = rises-push e.place row e (omega arith) so.rises;
-
 }
 
 pub shared_one : {N : Type 0} (value : N → ℚ) (u : ℚ) (place : ℕ) (x : N) (old new : List (Entry N)) (e : Entry N) → e.place ≡ place → value e.number ≡ value x *ℚ u → new ≡ old ++ e ∷ [] → IsShared value u place (Some x) old new
@@ -107,7 +105,6 @@ turns_more value inverse row less i inverse' e old new l is here was sum so = re
         | no ne ↦ subst (λ xs. Rises 0 m xs) (sym (get_or-set_other inverse' e.place k new [] ne)) (so.rises m all under k (let w = length-set inverse' e.place new in omega arith))
       ] in
       go (ℕ_discrete k e.place);
-
 }
 
 pub turns_end : {N : Type 0} (value : N → ℚ) (inverse : List (List (Entry N))) (row less : List (Entry N)) (i : ℕ) (inverse' : List (List (Entry N))) → length row ≤ i → TurnsSoFar value inverse row less i inverse' → Turns value inverse row less inverse'
@@ -116,5 +113,4 @@ turns_end value inverse row less i inverse' l so = record {
   sums = λ k p j.
       sym (ap (λ xs. inv_of value inverse' k p +ℚ at value xs k *ℚ at value less p) (drop_of_length-le row l) ∙ ap (λ a. inv_of value inverse' k p +ℚ a) (zero-*ℚ (at value less p)) ∙ +ℚ-zero (inv_of value inverse' k p)) ∙ so.sums k p j;
   rises = so.rises;
-
 }

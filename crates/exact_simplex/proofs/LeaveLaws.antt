@@ -111,7 +111,6 @@ searched_end value size n states t made k (Some b) l so = (
     step_is = so.found.2.step_is ∙ ap (ratio value t b.place) so.found.1;
     least = λ p j h. scan_end value size made k (Handled value n states t made (Some b)) l (λ q z. handled_none value n states t made (Some b) q z) so.scanned p h;
   },
-
 )
 
 -- ---- one entry
@@ -125,7 +124,6 @@ weighs_none value n states t (Some l) e free = record {
   from = inl refl;
   before = λ b same. subst (λ o. StepWithin value (value l.step) o) same (≤ℚ_refl (value l.step));
   here = λ h. absurd (free h);
-
 }
 
 -- what was found, in the words of the caller

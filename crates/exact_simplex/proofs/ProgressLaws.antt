@@ -34,16 +34,13 @@ row_turned value size place row entering made taken old new y y' None l ne none 
   same = λ k j.
       ap (λ z. num value z k) turns ∙ is.same k j
       ∙ sym ((pivots.turns k j).others row l ne ∙ ap (λ a. inverse_of value old k row +ℚ neg_ℚ (neg_ℚ (at value taken k)) *ℚ a) none ∙ ap (λ a. inverse_of value old k row +ℚ a) (*ℚ-zero (neg_ℚ (neg_ℚ (at value taken k)))) ∙ +ℚ-zero (inverse_of value old k row));
-
 }
-
 row_turned value size place row entering made taken old new y y' (Some x) l ne found pivots is same_length turns = record {
   one_each = same_length ∙ is.one_each;
   same = λ k j.
       turns k (let w = is.one_each in omega arith)
       ∙ ap₂ (λ a b. a +ℚ b) (is.same k j) (*ℚ_comm (value x) (at value taken k) ∙ ap₂ (λ a b. a *ℚ b) (sym (neg_neg (at value taken k))) (sym found))
       ∙ sym ((pivots.turns k j).others row l ne);
-
 }
 
 -- the step's parts together

@@ -82,7 +82,6 @@ feasible_settled size n r states s basis x l some suits was = record {
         | no ne ↦ was.own_place i j (sym (get_or-set_other states r i s state.Waiting ne) ∙ waits)
       ] in
       go (ℕ_discrete i r);
-
 }
   where
     other_state : (v : ℕ) → v ≢ n + r → state_of n (set states r s) v ≡ state_of n states v

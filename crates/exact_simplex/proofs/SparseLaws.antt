@@ -108,14 +108,12 @@ pub put_none : {N : Type 0} (value : N → ℚ) (out : List (Entry N)) (place : 
 put_none value out place x e = record {
   sums = λ p. sym (ap (λ z. at value out p +ℚ at_place place z p) e ∙ ap (λ z. at value out p +ℚ z) (at_place-zero place p) ∙ +ℚ-zero (at value out p));
   rises = λ b h l. rises-to 0 b (place + 1) out (omega arith) h;
-
 }
 
 pub put_one : {N : Type 0} (value : N → ℚ) (out : List (Entry N)) (e : Entry N) → Puts value out e.place (value e.number) (out ++ e ∷ [])
 put_one value out e = record {
   sums = λ p. at-push value out e p;
   rises = λ b h l. rises-push b out e l h;
-
 }
 
 pub moves_none : {N : Type 0} (value : N → ℚ) (target : List (Entry N)) (i : ℕ) (out : List (Entry N)) (place : ℕ) → i ≤ length target → MovesUpTo value target i out place i out
@@ -136,7 +134,6 @@ moves_one value target i out place j out' e so l is k = record {
         within = omega arith;
         meet = record { out_rises = rises-push was.between out' e next.0 was.meet.out_rises; rest_rises = next.2 };
       };
-
 }
 
 pub moves_end : {N : Type 0} (value : N → ℚ) (target : List (Entry N)) (i : ℕ) (out : List (Entry N)) (place j : ℕ) (out' : List (Entry N)) → MovesUpTo value target i out place j out'
@@ -147,7 +144,6 @@ moves_end value target i out place j out' so l = record {
   meet = λ b m h g.
       let was = so.meet b m h g in
       record { out_rises = rises-to 0 was.between place out' was.within was.meet.out_rises; rest_rises = rises-ended place m target j l };
-
 }
 
 pub moves_stop : {N : Type 0} (value : N → ℚ) (target : List (Entry N)) (i : ℕ) (out : List (Entry N)) (place j : ℕ) (out' : List (Entry N)) (e : Entry N) → MovesUpTo value target i out place j out'
@@ -158,7 +154,6 @@ moves_stop value target i out place j out' e so l is k = record {
   meet = λ b m h g.
       let was = so.meet b m h g in
       record { out_rises = rises-to 0 was.between place out' was.within was.meet.out_rises; rest_rises = rises-later was.between m target j e place l is k was.meet.rest_rises };
-
 }
 
 -- a new entry alone: the rest of target ends here, or its next entry stands elsewhere
@@ -168,7 +163,6 @@ gains_alone value target i out place x out' puts l later = record {
   within = l;
   same = λ p. ap (λ z. z +ℚ at value (drop i target) p) (puts.sums p) ∙ +ℚ-last (at value out p) (at_place place x p) (at value (drop i target) p);
   meet = λ m h. record { out_rises = puts.rises place h.out_rises (omega arith); rest_rises = later m h.rest_rises };
-
 }
 
 pub later_ended : {N : Type 0} (target : List (Entry N)) (i place : ℕ) → length target ≤ i → (m : ℕ) → Rises place m (drop i target) → Rises (place + 1) m (drop i target)
@@ -197,7 +191,6 @@ gains_sum value target i out place x sum out' e l is here plus puts = record {
     out_rises = puts.rises place h.out_rises (omega arith);
     rest_rises = subst (λ q. Rises (q + 1) m (drop (i + 1) target)) here (rises-next place m target i e l is h.rest_rises).2;
   };
-
 }
 
 pub gathered_more : {N : Type 0} (value : N → ℚ) (out out₂ out₃ target : List (Entry N)) (i j j₂ : ℕ) (factor : ℚ) (source : List (Entry N)) (k : ℕ) (e : Entry N) (x : ℚ)
@@ -230,7 +223,6 @@ gathers_start m out target source e h k = record {
   within = omega arith;
   meet = record { out_rises = subst (λ xs. Rises 0 0 xs) (sym e) tt; rest_rises = h };
   more_rises = k;
-
 }
 
 pub gathered_start : {N : Type 0} (value : N → ℚ) (out target : List (Entry N)) (factor : ℚ) (source : List (Entry N)) → out ≡ [] → (p : ℕ) → gathered value out target 0 factor source 0 p ≡ at value target p +ℚ factor *ℚ at value source p
@@ -252,7 +244,6 @@ pub so_far_more : {N : Type 0} (value : N → ℚ) (es : List (Entry N)) (place 
 so_far_more value es place k e l is s so = record {
   same = sym (at-drop value es k e place l is ∙ ap (λ x. x +ℚ at value (drop (k + 1) es) place) (at_place-other e.place place (value e.number) s) ∙ zero-+ℚ (at value (drop (k + 1) es) place)) ∙ so.same;
   rises = λ m h. let next = rises-next 0 m es k e l is (so.rises m h) in rises-from (e.place + 1) 0 m (drop (k + 1) es) (omega arith) next.2;
-
 }
 
 pub so_far_found : {N : Type 0} (value : N → ℚ) (es : List (Entry N)) (place k : ℕ) (e : Entry N) → k < length es → e ≡ get_or es k e → e.place ≡ place → SoFar value es place k → (m : ℕ) → Rises 0 m es → at value es place ≡ value e.number

@@ -60,7 +60,6 @@ stays_up : (x d t : ℚ) → zero_ℚ ≤ℚ x → zero_ℚ ≤ℚ t → (zero_�
 stays_up x d t h k least = elim (<ℚ_or_≤ℚ zero_ℚ d) [
   | inl p ↦ ratio_keeps x d t h (ratio_least x d t (<ℚ-≤ℚ zero_ℚ d p) (positive_some d p) (least p))
   | inr p ↦ ratio_keeps x d t h (ratio_free x d t h p k)
-
 ]
 
 neg-<ℚ : (d : ℚ) → zero_ℚ <ℚ neg_ℚ d → d <ℚ zero_ℚ

@@ -1,7 +1,5 @@
-ghost use Rattle.std.specs.Prelude.{◌≡◌, ◌≤◌, ◌<◌, ◌+◌, ◌^◌, ℕ, length};
 ghost use Rattle.exact_simplex.specs.Ends.{Ends};
 ghost use Rattle.exact_simplex.specs.Final.{Describes};
-ghost use Rattle.exact_simplex.specs.Progress.{IsProgress, size_of};
 ghost use Rattle.exact_simplex.specs.Start.{Starts};
 ghost use Rattle.exact_simplex.specs.Rows.{ForcesAll};
 ghost use Rattle.exact_simplex.specs.Task.{IsTask};
@@ -32,9 +30,9 @@ pub(crate) fn force_rows<A: Arith, L: Ledger>(
     let rows = lp.rows.as_slice();
     for i in 0..rows.len() {
         let kind = rows[i].kind;
-        if let Some(blocked) =
-            force_row(alloc, arith, steps, task, progress, i as u32, kind, limit)?
-        {
+        if let Some(blocked) = force_row(
+            alloc, arith, steps, task, progress, i as u32, kind, limit,
+        )? {
             return Ok(Some(blocked));
         }
     }

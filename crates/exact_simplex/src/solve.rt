@@ -1,13 +1,11 @@
-ghost use Rattle.std.specs.Prelude.{◌≡◌, ◌≤◌, ◌<◌, ◌+◌, ◌^◌, ℕ, length, true};
-ghost use Rattle.exact_simplex.specs.Dense.{num};
+ghost use Rattle.std.specs.Prelude.{◌≡◌, ◌≤◌, length, true};
 ghost use Rattle.exact_simplex.specs.Enter.{IsExtreme};
 ghost use Rattle.exact_simplex.specs.Ray.{IsDirection};
 ghost use Rattle.exact_simplex.specs.Sparse.{PlacesBelow};
 ghost use Rattle.exact_simplex.specs.Answer.{Answers, AnswersBest, Concludes, ConcludesAfter};
-ghost use Rattle.exact_simplex.specs.Drive.{IsUnbounded};
 ghost use Rattle.exact_simplex.specs.Ends.{Ends};
 ghost use Rattle.exact_simplex.specs.Final.{Describes, AreSettled};
-ghost use Rattle.exact_simplex.specs.Progress.{IsProgress, IsRow, size_of, IsTaskLists};
+ghost use Rattle.exact_simplex.specs.Progress.{IsProgress, IsRow, size_of};
 ghost use Rattle.exact_simplex.specs.Task.{IsTask, pivot_limit};
 
 use crate::answer::{best, empty, ray};
@@ -136,7 +134,14 @@ fn solve<A: Arith, L: Ledger>(
     }
 }
 
-/// The greatest gain over the points that are not negative and meet each row.
+/// Solves a linear program by the simplex method in exact fractions (G. B. Dantzig, 1951), over the inverse
+/// of the basis (G. B. Dantzig and W. Orchard-Hays, 1954).
+///
+/// An answer is its own proof: `Best`, `Empty` and `Ray` hold the numbers that show them. `Wide` comes only
+/// where `arith` refused a number and counted it. `steps` counts the pivots of the call; there are at most
+/// `20 * (rows + columns) + 1000`, and `Stalled` comes exactly where so many gave no answer. Memory may run
+/// out. Each column that an entry names is one of the task's, there is one gain a column, and there are
+/// fewer than 2^32 rows.
 pub fn solve_lp<A: Arith, L: Ledger>(
     alloc: Global,
     lp: &Lp,

@@ -27,7 +27,8 @@ loop-row-preserved g c =
 
 pub returns : goal.returns
 returns g c =
-    let value = g.A.Num.Fraction.value in
-    (c.loop-row.invariant.wides,
-     subst (λ z. AreSides value c.args.rows.now z) (sym c.in_ok-append_number-2.ensures.ok)
-     (sides_end value c.args.rows.now c.loop-row.row-index c.loop-row.sides.items c.in_ok-zero.zero (omega arith) (c.in_ok-zero.ensures.value ∙ int_ℚ-zero) c.loop-row.invariant.so_far))
+    let value = g.A.Num.Fraction.value in (
+      c.loop-row.invariant.wides,
+      subst (λ z. AreSides value c.args.rows.now z) (sym c.in_ok-append_number-2.ensures.ok)
+          (sides_end value c.args.rows.now c.loop-row.row-index c.loop-row.sides.items c.in_ok-zero.zero (omega arith) (c.in_ok-zero.ensures.value ∙ int_ℚ-zero) c.loop-row.invariant.so_far),
+    )

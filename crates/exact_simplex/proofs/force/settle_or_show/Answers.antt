@@ -15,13 +15,17 @@ pub returns : goal.returns
 returns g c =
     let value = g.A.Num.Fraction.value in
     let p = c.args.progress.now in
-    let end = c.requires.end in
-    (c.in_ok-shown.ensures.0,
-      (record {
-        up = c.args.up;
-        goes = c.requires.goes;
-        y = c.args.y.items;
-        stuck = end;
-        some = λ e. c.if-is_zero.ensures (sym (point_is value c.args.task.now c.args.row p c.index.result.now end.progress c.requires.row c.index.ensures) ∙ e);
-        shown = c.in_ok-shown.ensures.1;
-      }, refl))
+    let end = c.requires.end in (
+      c.in_ok-shown.ensures.0,
+      (
+        record {
+          up = c.args.up;
+          goes = c.requires.goes;
+          y = c.args.y.items;
+          stuck = end;
+          some = λ e. c.if-is_zero.ensures (sym (point_is value c.args.task.now c.args.row p c.index.result.now end.progress c.requires.row c.index.ensures) ∙ e);
+          shown = c.in_ok-shown.ensures.1;
+        },
+        refl,
+      ),
+    )
