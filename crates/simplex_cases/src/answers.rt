@@ -2,8 +2,6 @@ use crate::tasks::{answer, at_most, equal};
 use exact_num::{Arith, Exact64, Exact128, Refusing};
 use exact_simplex::{LpAnswer, LpRow};
 use std::alloc::Global;
-use std::marker::Brand;
-use std::sync::ledger::Blank;
 use std::test::Fail;
 
 /// What an answer is, apart from its numbers.
@@ -29,7 +27,7 @@ fn kind_of(answer: &LpAnswer) -> Kind {
 
 /// The answer over 128 bits.
 fn answer_128(alloc: Global, gain: &[i64], rows: Vec<LpRow>) -> Result<LpAnswer, Fail> {
-    answer::<Exact128, Brand>(alloc, &mut Exact128::new(), Blank::new(1), gain, rows)
+    answer(alloc, &mut Exact128::new(), gain, rows)
 }
 
 /// What the answer over 128 bits is.
@@ -42,7 +40,8 @@ fn kind_128(alloc: Global, gain: &[i64], rows: Vec<LpRow>) -> Result<Kind, Fail>
 fn best(answer: &LpAnswer) -> Option<(&[i128], i128, &[i128], i128)> {
     match answer {
         LpAnswer::Best { x, xden, y, yden } => Some((x.as_slice(), *xden, y.as_slice(), *yden)),
-        LpAnswer::Empty { .. } | LpAnswer::Ray { .. } | LpAnswer::Wide | LpAnswer::Stalled { .. } => None,
+        LpAnswer::Empty { .. } | LpAnswer::Ray { .. } | LpAnswer::Wide | LpAnswer::Stalled { .. } =>
+            None,
     }
 }
 
@@ -69,7 +68,7 @@ fn one_column_under_one_row(rt: HostRuntime) -> Result<(), Fail> {
 #[test]
 fn one_column_over_64_bits(rt: HostRuntime) -> Result<(), Fail> {
     let rows = one_row(rt.alloc())?;
-    let found = answer::<Exact64, Brand>(rt.alloc(), &mut Exact64::new(), Blank::new(1), &[1], rows)?;
+    let found = answer(rt.alloc(), &mut Exact64::new(), &[1], rows)?;
     assert_eq!(rt; best(&found), Some((&[1i128][..], 1, &[1i128][..], 1)));
     Ok(())
 }
@@ -78,7 +77,7 @@ fn one_column_over_64_bits(rt: HostRuntime) -> Result<(), Fail> {
 fn one_column_refused(rt: HostRuntime) -> Result<(), Fail> {
     let rows = one_row(rt.alloc())?;
     let mut arith = Refusing::new();
-    let found = answer::<Refusing, Brand>(rt.alloc(), &mut arith, Blank::new(1), &[1], rows)?;
+    let found = answer(rt.alloc(), &mut arith, &[1], rows)?;
     assert_eq!(rt; kind_of(&found), Kind::Wide);
     assert!(rt; arith.wide_count() > 0);
     Ok(())
@@ -87,15 +86,21 @@ fn one_column_refused(rt: HostRuntime) -> Result<(), Fail> {
 #[test]
 fn three_columns_in_pairs(rt: HostRuntime) -> Result<(), Fail> {
     let found = answer_128(rt.alloc(), &[1, 1, 1], pairs(rt.alloc())?)?;
-    assert_eq!(rt; best(&found), Some((&[1i128, 1, 1][..], 2, &[1i128, 1, 1][..], 2)));
+    assert_eq!(rt;
+        best(&found),
+        Some((&[1i128, 1, 1][..], 2, &[1i128, 1, 1][..], 2))
+    );
     Ok(())
 }
 
 #[test]
 fn three_columns_in_pairs_over_64_bits(rt: HostRuntime) -> Result<(), Fail> {
     let rows = pairs(rt.alloc())?;
-    let found = answer::<Exact64, Brand>(rt.alloc(), &mut Exact64::new(), Blank::new(1), &[1, 1, 1], rows)?;
-    assert_eq!(rt; best(&found), Some((&[1i128, 1, 1][..], 2, &[1i128, 1, 1][..], 2)));
+    let found = answer(rt.alloc(), &mut Exact64::new(), &[1, 1, 1], rows)?;
+    assert_eq!(rt;
+        best(&found),
+        Some((&[1i128, 1, 1][..], 2, &[1i128, 1, 1][..], 2))
+    );
     Ok(())
 }
 
@@ -110,9 +115,18 @@ fn a_bound_and_an_equation_that_contradict(rt: HostRuntime) -> Result<(), Fail> 
 
 #[test]
 fn a_column_without_rows(rt: HostRuntime) -> Result<(), Fail> {
-    assert_eq!(rt; kind_128(rt.alloc(), &[1], vec![in rt.alloc()]?)?, Kind::Ray);
-    assert_eq!(rt; kind_128(rt.alloc(), &[0], vec![in rt.alloc()]?)?, Kind::Best);
-    assert_eq!(rt; kind_128(rt.alloc(), &[i64::MIN], vec![in rt.alloc()]?)?, Kind::Best);
+    assert_eq!(rt;
+        kind_128(rt.alloc(), &[1], vec![in rt.alloc()]?)?,
+        Kind::Ray
+    );
+    assert_eq!(rt;
+        kind_128(rt.alloc(), &[0], vec![in rt.alloc()]?)?,
+        Kind::Best
+    );
+    assert_eq!(rt;
+        kind_128(rt.alloc(), &[i64::MIN], vec![in rt.alloc()]?)?,
+        Kind::Best
+    );
     Ok(())
 }
 
@@ -120,9 +134,18 @@ fn a_column_without_rows(rt: HostRuntime) -> Result<(), Fail> {
 fn rows_without_columns(rt: HostRuntime) -> Result<(), Fail> {
     let alloc = rt.alloc();
     assert_eq!(rt; kind_128(alloc, &[], vec![in alloc]?)?, Kind::Best);
-    assert_eq!(rt; kind_128(alloc, &[], vec![in alloc; equal(alloc, &[], 1)?]?)?, Kind::Empty);
-    assert_eq!(rt; kind_128(alloc, &[], vec![in alloc; equal(alloc, &[], -1)?]?)?, Kind::Empty);
-    assert_eq!(rt; kind_128(alloc, &[], vec![in alloc; at_most(alloc, &[], -1)?]?)?, Kind::Empty);
+    assert_eq!(rt;
+        kind_128(alloc, &[], vec![in alloc; equal(alloc, &[], 1)?]?)?,
+        Kind::Empty
+    );
+    assert_eq!(rt;
+        kind_128(alloc, &[], vec![in alloc; equal(alloc, &[], -1)?]?)?,
+        Kind::Empty
+    );
+    assert_eq!(rt;
+        kind_128(alloc, &[], vec![in alloc; at_most(alloc, &[], -1)?]?)?,
+        Kind::Empty
+    );
     Ok(())
 }
 
@@ -142,12 +165,33 @@ fn kind_of_one(alloc: Global, gain: i64, row: LpRow) -> Result<Kind, Fail> {
 #[test]
 fn one_row_at_its_limits(rt: HostRuntime) -> Result<(), Fail> {
     let alloc = rt.alloc();
-    assert_eq!(rt; kind_of_one(alloc, 1, at_most(alloc, &[(0, 1)], -1)?)?, Kind::Empty);
-    assert_eq!(rt; kind_of_one(alloc, 1, at_most(alloc, &[(0, -1)], -1)?)?, Kind::Ray);
-    assert_eq!(rt; kind_of_one(alloc, -1, at_most(alloc, &[(0, -1)], -1)?)?, Kind::Best);
-    assert_eq!(rt; kind_of_one(alloc, -1, equal(alloc, &[(0, -1)], -3)?)?, Kind::Best);
-    assert_eq!(rt; kind_of_one(alloc, 1, equal(alloc, &[(0, -1)], 1)?)?, Kind::Empty);
-    assert_eq!(rt; kind_of_one(alloc, i64::MAX, at_most(alloc, &[(0, i64::MAX)], i64::MAX)?)?, Kind::Best);
-    assert_eq!(rt; kind_of_one(alloc, -1, at_most(alloc, &[(0, i64::MIN)], i64::MIN)?)?, Kind::Best);
+    assert_eq!(rt;
+        kind_of_one(alloc, 1, at_most(alloc, &[(0, 1)], -1)?)?,
+        Kind::Empty
+    );
+    assert_eq!(rt;
+        kind_of_one(alloc, 1, at_most(alloc, &[(0, -1)], -1)?)?,
+        Kind::Ray
+    );
+    assert_eq!(rt;
+        kind_of_one(alloc, -1, at_most(alloc, &[(0, -1)], -1)?)?,
+        Kind::Best
+    );
+    assert_eq!(rt;
+        kind_of_one(alloc, -1, equal(alloc, &[(0, -1)], -3)?)?,
+        Kind::Best
+    );
+    assert_eq!(rt;
+        kind_of_one(alloc, 1, equal(alloc, &[(0, -1)], 1)?)?,
+        Kind::Empty
+    );
+    assert_eq!(rt;
+        kind_of_one(alloc, i64::MAX, at_most(alloc, &[(0, i64::MAX)], i64::MAX)?)?,
+        Kind::Best
+    );
+    assert_eq!(rt;
+        kind_of_one(alloc, -1, at_most(alloc, &[(0, i64::MIN)], i64::MIN)?)?,
+        Kind::Best
+    );
     Ok(())
 }

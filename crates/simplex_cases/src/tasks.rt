@@ -6,6 +6,7 @@ ghost use Rattle.simplex_cases.specs.Ranges.{RowsIn};
 use exact_num::{Arith, Steps};
 use exact_simplex::{Lp, LpAnswer, LpRow, RowKind, solve_lp};
 use std::alloc::Global;
+use std::marker::Brand;
 use std::sync::ledger::{Blank, Ledger};
 use std::test::Fail;
 use values::Items;
@@ -67,8 +68,8 @@ fn is_task(lp: &Lp) -> bool
     are_in_range(lp.columns, lp.rows.as_slice())
 }
 
-/// The answer to the task with these gains and rows.
-pub fn answer<A: Arith, L: Ledger>(
+/// The answer to the task with these gains and rows, with its pivots counted in a ledger.
+fn answer_counted<A: Arith, L: Ledger>(
     alloc: Global,
     arith: &mut A,
     blank: Blank,
@@ -93,4 +94,14 @@ pub fn answer<A: Arith, L: Ledger>(
         return Err(Fail::new("no task"));
     }
     Ok(solve_lp(alloc, &lp, arith, &mut steps)?)
+}
+
+/// The answer to the task with these gains and rows.
+pub fn answer<A: Arith>(
+    alloc: Global,
+    arith: &mut A,
+    gain: &[i64],
+    rows: Vec<LpRow>,
+) -> Result<LpAnswer, Fail> {
+    answer_counted::<A, Brand>(alloc, arith, Blank::new(1), gain, rows)
 }
