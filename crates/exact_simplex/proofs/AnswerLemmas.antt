@@ -1,5 +1,5 @@
 -- The answers of a call from the end of its drives.
-use Rattle.std.proofs.Common.{ℕ, ◌≡◌, ◌+◌, ◌<◌, ◌≤◌, sym, ◌∙◌, ap, ap₂, subst, List, length, get_or, arith, refl, zero, suc, [], ◌∷◌, ◌++◌, take, true, replicate, length-append, Option, Some, Vec, Global}
+use Rattle.std.proofs.Common.{ℕ, ◌≡◌, ◌+◌, ◌<◌, sym, ◌∙◌, ap, ap₂, subst, List, length, get_or, arith, refl, zero, suc, [], ◌∷◌, ◌++◌, take, true, replicate, length-append, Option, Some, Vec, Global}
 use Rattle.std.proofs.lemmas.List.{get_or-replicate, length-replicate}
 use Rattle.exact_num.specs.Q.{ℚ}
 use Rattle.exact_num.specs.Ops.{zero_ℚ, neg_ℚ, one_ℚ, ◌+ℚ◌, ◌*ℚ◌, zero-+ℚ, neg-*ℚ, one-*ℚ}
@@ -10,8 +10,6 @@ use Rattle.exact_simplex.specs.declared.sparse.Entry.{Entry}
 use Rattle.exact_simplex.specs.declared.progress.Task.{Task}
 use Rattle.exact_simplex.specs.declared.progress.Progress.{Progress}
 use Rattle.exact_simplex.specs.declared.task.Lp.{Lp}
-use Rattle.exact_simplex.specs.declared.task.LpAnswer.{LpAnswer}
-use Rattle.exact_simplex.specs.declared.task.LpAnswer.TheVariants as answer
 use Rattle.exact_simplex.specs.declared.drive.Driven.{Driven}
 use Rattle.exact_simplex.specs.declared.drive.Driven.TheVariants as driven
 use Rattle.exact_simplex.specs.Dense.{num, Added}
@@ -31,8 +29,7 @@ use Rattle.exact_simplex.specs.Progress.{size_of, IsProgress, IsRow}
 use Rattle.exact_simplex.specs.Ray.{IsRayFraction, IsDirection}
 use Rattle.exact_simplex.specs.Scaled.{IsOptimum, MeetsFraction, IsMultiplierFraction}
 use Rattle.exact_simplex.specs.Tableau.{basis_of, point_of}
-use Rattle.exact_simplex.specs.Task.{int_at, cell, row_at, pivot_limit}
-use Rattle.exact_simplex.specs.Answer.{AnswersBest, AnswersEmpty, AnswersRay, Concludes}
+use Rattle.exact_simplex.specs.Task.{int_at, cell, row_at}
 use Rattle.exact_simplex.specs.Values.{AreValues}
 use Rattle.exact_simplex.proofs.ListLemmas.{get_or-end, get_or-front, num-end, num-front}
 use Rattle.exact_simplex.proofs.RayLemmas.{ray_shows, ray_same}
@@ -84,27 +81,6 @@ best_from value lp task p y x z basis point describes is settled row extreme bas
     z_same (optimum value lp task p y describes is settled row extreme)
 
 -- ---- the answers
-
-pub best_concludes : (lp : Lp) (a : LpAnswer) (steps steps' : ℕ) → steps' ≤ steps + pivot_limit lp → AnswersBest lp a → Concludes lp steps steps' a
-best_concludes lp (answer.Best x d y e) steps steps' l h = (h, l)
-best_concludes lp (answer.Empty _) steps steps' l h = absurd h
-best_concludes lp (answer.Ray _) steps steps' l h = absurd h
-best_concludes lp (answer.Stalled _) steps steps' l h = absurd h
-best_concludes lp answer.Wide steps steps' l h = absurd h
-
-pub empty_concludes : (lp : Lp) (a : LpAnswer) (steps steps' : ℕ) → steps' ≤ steps + pivot_limit lp → AnswersEmpty lp a → Concludes lp steps steps' a
-empty_concludes lp (answer.Empty y) steps steps' l h = (h, l)
-empty_concludes lp (answer.Best _ _ _ _) steps steps' l h = absurd h
-empty_concludes lp (answer.Ray _) steps steps' l h = absurd h
-empty_concludes lp (answer.Stalled _) steps steps' l h = absurd h
-empty_concludes lp answer.Wide steps steps' l h = absurd h
-
-pub ray_concludes : (lp : Lp) (a : LpAnswer) (steps steps' : ℕ) → steps' ≤ steps + pivot_limit lp → AnswersRay lp a → Concludes lp steps steps' a
-ray_concludes lp (answer.Ray x) steps steps' l h = (h, l)
-ray_concludes lp (answer.Best _ _ _ _) steps steps' l h = absurd h
-ray_concludes lp (answer.Empty _) steps steps' l h = absurd h
-ray_concludes lp (answer.Stalled _) steps steps' l h = absurd h
-ray_concludes lp answer.Wide steps steps' l h = absurd h
 
 -- ---- the direction
 
@@ -160,9 +136,6 @@ stuck_gain value lp task limit old new y d is end = let e = subst (λ x. EndsAt 
 pub unbounded_gain : {N : Type 0} (value : N → ℚ) (lp : Lp) (task : Task N) (limit : ℕ) (old new : Progress N) (y : List N) (d : Driven N) (entering : ℕ) (made : List (Entry N)) → d ≡ driven.Unbounded entering made → EndsAt value task (length lp.rows) true limit old new y d
     → IsRow value (size_of task) new.tableau (length lp.rows) y × IsUnbounded value task new y true entering made
 unbounded_gain value lp task limit old new y d entering made is end = let e = subst (λ x. EndsAt value task (length lp.rows) true limit old new y x) is end in (e.0.is_row, e.1)
-
-pub stalled_gain : {N : Type 0} (value : N → ℚ) (lp : Lp) (task : Task N) (limit : ℕ) (old new : Progress N) (y : List N) (d : Driven N) → d ≡ driven.Stalled → EndsAt value task (length lp.rows) true limit old new y d → new.pivots ≡ limit
-stalled_gain value lp task limit old new y d is end = (subst (λ x. EndsAt value task (length lp.rows) true limit old new y x) is end).1
 
 -- ---- the rows
 

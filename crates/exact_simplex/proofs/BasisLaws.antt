@@ -2,7 +2,7 @@
 use Rattle.std.proofs.Common.{ℕ, ◌≡◌, ◌<◌, ◌≢◌, sym, ◌∙◌, ap, ap₂}
 use Rattle.std.proofs.Math.Decide.{ℕ_discrete}
 use Rattle.exact_num.specs.Q.{ℚ}
-use Rattle.exact_num.specs.Ops.{zero_ℚ, one_ℚ, neg_ℚ, inv_ℚ, ◌+ℚ◌, ◌*ℚ◌, +ℚ_assoc, +ℚ_comm, +ℚ-zero, +ℚ-neg, *ℚ-+ℚ, *ℚ_comm, *ℚ_assoc, *ℚ-one, neg-*ℚ, *ℚ-inv}
+use Rattle.exact_num.specs.Ops.{zero_ℚ, one_ℚ, neg_ℚ, ◌+ℚ◌, ◌*ℚ◌, +ℚ_assoc, +ℚ_comm, +ℚ-zero, +ℚ-neg, *ℚ-+ℚ, *ℚ_comm, *ℚ-one, neg-*ℚ}
 use Rattle.exact_num.specs.Sums.{sum_ℚ}
 use Rattle.exact_simplex.specs.Pivot.{IsPivoted, dot}
 use Rattle.exact_simplex.proofs.PivotLaws.{pivot_sums, pivot_inverse}
@@ -52,10 +52,6 @@ pivoted_by size r d d' x x' t l at_r off share moved = record {
 
     twice : (a : ℚ) → neg_ℚ a *ℚ neg_ℚ one_ℚ ≡ a
     twice a = neg-*ℚ a (neg_ℚ one_ℚ) ∙ ap neg_ℚ (*ℚ_comm a (neg_ℚ one_ℚ) ∙ neg-*ℚ one_ℚ a ∙ ap neg_ℚ (*ℚ_comm one_ℚ a ∙ *ℚ-one a)) ∙ back a
-
--- where the share is 0 nothing moves
-pub share_is : (a d : ℚ) → d ≢ zero_ℚ → (a *ℚ inv_ℚ d) *ℚ d ≡ a
-share_is a d some = *ℚ_assoc a (inv_ℚ d) d ∙ ap (λ u. a *ℚ u) (*ℚ_comm (inv_ℚ d) d ∙ *ℚ-inv d some) ∙ *ℚ-one a
 
 -- places hold different variables
 pub one_place : (size : ℕ) (column : ℕ → ℕ → ℚ) (side : ℕ → ℚ) (basis : ℕ → ℕ) (inv : ℕ → ℕ → ℚ) (x : ℕ → ℚ) → one_ℚ ≢ zero_ℚ → IsBasis size column side basis inv x

@@ -42,14 +42,6 @@ rows_more value old rows i entries mid new is added so = record {
   below = λ m h all. added.below m (omega arith) (so.below m (omega arith) all);
 }
 
-pub rows_none : {N : Type 0} (value : N → ℚ) (old : List (List (Entry N))) (rows : List LpRow) → AddsFirst value old rows 0 old
-rows_none value old rows = record {
-  same_length = refl;
-  sums = λ v k j h. absurd (omega arith);
-  others = λ v k j h. refl;
-  below = λ m h all. all;
-}
-
 pub gains_more : {N : Type 0} (value : N → ℚ) (old : List (List (Entry N))) (place : ℕ) (gain : List ℤ) (j : ℕ) (g : ℤ) (mid new : List (List (Entry N))) → g ≡ int_at gain j
     → AddsEntry value mid j place (neg_ℚ (int_ℚ g)) new → AddsGainsTo value old place gain j mid → AddsGainsTo value old place gain (j + 1) new
 gains_more value old place gain j g mid new is added so = record {
@@ -68,14 +60,6 @@ gains_more value old place gain j g mid new is added so = record {
       added.sums v k (let w = so.same_length in omega arith) ∙ ap (λ b. inv_of value mid v k +ℚ b) (at_place-other j v (at_place place (neg_ℚ (int_ℚ g)) k) (λ s. absurd (omega arith)))
       ∙ +ℚ-zero (inv_of value mid v k) ∙ so.others v k l (omega arith);
   below = λ m h all. added.below m h (so.below m h all);
-}
-
-pub gains_none : {N : Type 0} (value : N → ℚ) (old : List (List (Entry N))) (place : ℕ) (gain : List ℤ) → AddsGainsTo value old place gain 0 old
-gains_none value old place gain = record {
-  same_length = refl;
-  sums = λ v k j h. absurd (omega arith);
-  others = λ v k j h. refl;
-  below = λ m h all. all;
 }
 
 pub sides_more : {N : Type 0} (value : N → ℚ) (rows : List LpRow) (i : ℕ) (sides : List N) (side : N) → value side ≡ int_ℚ (get_or rows i no_row).side → AreFirstSides value rows i sides → AreFirstSides value rows (i + 1) (sides ++ side ∷ [])
@@ -114,9 +98,6 @@ empty_more count lists column none so = record {
       ] in
       go (ℕ_discrete v (length lists));
 }
-
-pub units_none : {N : Type 0} (one : N) (old : List (List (Entry N))) → HasUnits one 0 old old
-units_none one old = record { count_is = omega arith; kept = λ v l. refl; unit = λ i l. absurd (omega arith) }
 
 pub units_more : {N : Type 0} (one : N) (rows : ℕ) (old lists : List (List (Entry N))) (column : List (Entry N)) → column ≡ unit_entry one rows ∷ [] → HasUnits one rows old lists → HasUnits one (rows + 1) old (lists ++ column ∷ [])
 units_more one rows old lists column is so = record {

@@ -12,8 +12,6 @@ use Rattle.exact_simplex.specs.Dense.{num}
 use Rattle.exact_simplex.specs.declared.sparse.Entry.{Entry}
 use Rattle.exact_simplex.specs.declared.progress.Task.{Task}
 use Rattle.exact_simplex.specs.declared.progress.Progress.{Progress}
-use Rattle.exact_simplex.specs.declared.drive.Driven.{Driven}
-use Rattle.exact_simplex.specs.declared.drive.Driven.TheVariants as driven
 use Rattle.exact_simplex.specs.Sparse.{at}
 use Rattle.exact_simplex.proofs.SparseLaws.{sum-at}
 use Rattle.exact_simplex.specs.Inverse.{inv_of, list_at, Makes}
@@ -26,18 +24,10 @@ use Rattle.exact_simplex.specs.declared.state.RowState.{RowState}
 use Rattle.exact_simplex.specs.Progress.{size_of, column_of, side_of, IsTaskLists, IsProgress, IsRow, Advances}
 use Rattle.exact_simplex.proofs.ProgressLaws.{made_is}
 use Rattle.exact_simplex.specs.declared.state.RowState.TheVariants as state
-use Rattle.exact_simplex.specs.Drive.{EndsAt, IsNowhere, IsUnbounded, IsThere, Keeps}
+use Rattle.exact_simplex.specs.Drive.{IsNowhere, IsUnbounded, Keeps}
 
 pub keeps_none : {N : Type 0} (value : N → ℚ) (task : Task N) (limit : ℕ) (p : Progress N) (steps : ℕ) → IsProgress value task p → p.pivots ≤ limit → Keeps value task limit p p steps steps
 keeps_none value task limit p steps is l = record { progress = is; states = refl; counted = refl; within = l }
-
-pub keeps_then : {N : Type 0} (value : N → ℚ) (task : Task N) (limit : ℕ) (a b c : Progress N) (s t u : ℕ) → Keeps value task limit a b s t → Keeps value task limit b c t u → Keeps value task limit a c s u
-keeps_then value task limit a b c s t u first second = record {
-  progress = second.progress;
-  states = second.states ∙ first.states;
-  counted = let x = first.counted in let y = second.counted in omega arith;
-  within = second.within;
-}
 
 pub keeps_advance : {N : Type 0} (value : N → ℚ) (task : Task N) (row entering place limit : ℕ) (old new : Progress N) (y : List N) (steps steps' : ℕ) → Advances value task row entering place old new y steps steps' → old.pivots < limit → Keeps value task limit old new steps steps'
 keeps_advance value task row entering place limit old new y steps steps' is l = record {
@@ -46,12 +36,6 @@ keeps_advance value task row entering place limit old new y steps steps' is l = 
   counted = let x = is.counted in let z = is.pivots in omega arith;
   within = let z = is.pivots in omega arith;
 }
-
-pub ends_later : {N : Type 0} (value : N → ℚ) (task : Task N) (row : ℕ) (up : Bool) (limit : ℕ) (a b c : Progress N) (y y' : List N) (d : Driven N) → IsThere value task row a b y → EndsAt value task row up limit b c y' d → EndsAt value task row up limit a c y' d
-ends_later value task row up limit a b c y y' driven.Left first end = end
-ends_later value task row up limit a b c y y' driven.Stuck first end = (record { same = end.0.same ∙ first.same; is_row = end.0.is_row }, end.1)
-ends_later value task row up limit a b c y y' (driven.Unbounded entering made) first end = (record { same = end.0.same ∙ first.same; is_row = end.0.is_row }, end.1)
-ends_later value task row up limit a b c y y' driven.Stalled first end = (record { same = end.0.same ∙ first.same; is_row = end.0.is_row }, end.1)
 
 pub one_not_zero : one_ℚ ≢ zero_ℚ
 one_not_zero e = <ℚ-not-≡ zero_ℚ one_ℚ zero-<ℚ-one (sym e)

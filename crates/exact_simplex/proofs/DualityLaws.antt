@@ -3,7 +3,7 @@ use Rattle.std.proofs.Common.{ℕ, ◌≡◌, ◌<◌, sym, ◌∙◌, ap, ◌�
 use Rattle.exact_num.specs.Q.{ℚ}
 use Rattle.exact_num.specs.Ops.{zero_ℚ, neg_ℚ, ◌+ℚ◌, ◌*ℚ◌, *ℚ_assoc, *ℚ_comm, *ℚ-zero, zero-*ℚ, neg-*ℚ, inv_ℚ, *ℚ-inv, *ℚ-one}
 use Rattle.exact_num.specs.Sums.{sum_ℚ, sum_ℚ-same, sum_ℚ-scale, sum_ℚ-exchanged, sum_ℚ-one}
-use Rattle.exact_num.specs.Order.{◌≤ℚ◌, ≤ℚ_trans, *ℚ-≤ℚ, sum_ℚ-≤ℚ, to_difference}
+use Rattle.exact_num.specs.Order.{◌≤ℚ◌, ≤ℚ_trans, *ℚ-≤ℚ, to_difference}
 use Rattle.exact_simplex.specs.Pivot.{dot}
 use Rattle.exact_simplex.specs.Duality.{IsRightInverse}
 
@@ -16,17 +16,6 @@ sides_meet m n y x a =
     (λ k l. sum_ℚ-same (λ j. x j *ℚ (y k *ℚ a j k)) (λ j. y k *ℚ (x j *ℚ a j k)) n
     (λ j i. sym (*ℚ_assoc (x j) (y k) (a j k)) ∙ ap (λ u. u *ℚ a j k) (*ℚ_comm (x j) (y k)) ∙ *ℚ_assoc (y k) (x j) (a j k))
     ∙ sum_ℚ-scale (y k) (λ j. x j *ℚ a j k) n)
-
--- weak duality: multipliers that cover each gain, times rows that hold, bound the gain
-pub weak_duality : (m n : ℕ) (y x gain b : ℕ → ℚ) (a : ℕ → ℕ → ℚ)
-    → ((j : ℕ) → j < n → zero_ℚ ≤ℚ x j) → ((j : ℕ) → j < n → gain j ≤ℚ dot y (a j) m)
-    → ((k : ℕ) → k < m → y k *ℚ sum_ℚ (λ j. x j *ℚ a j k) n ≤ℚ y k *ℚ b k)
-    → sum_ℚ (λ j. x j *ℚ gain j) n ≤ℚ dot y b m
-weak_duality m n y x gain b a sign cover rows =
-    ≤ℚ_trans (sum_ℚ (λ j. x j *ℚ gain j) n) (sum_ℚ (λ j. x j *ℚ dot y (a j) m) n) (dot y b m)
-    (sum_ℚ-≤ℚ (λ j. x j *ℚ gain j) (λ j. x j *ℚ dot y (a j) m) n
-    (λ j l. subst (λ u. u ≤ℚ x j *ℚ dot y (a j) m) (*ℚ_comm (gain j) (x j)) (subst (λ u. gain j *ℚ x j ≤ℚ u) (*ℚ_comm (dot y (a j) m) (x j)) (*ℚ-≤ℚ (gain j) (dot y (a j) m) (x j) (cover j l) (sign j l)))))
-    (subst (λ u. u ≤ℚ dot y b m) (sym (sides_meet m n y x a)) (sum_ℚ-≤ℚ (λ k. y k *ℚ sum_ℚ (λ j. x j *ℚ a j k) n) (λ k. y k *ℚ b k) m rows))
 
 -- the ratio test: t is at most x p / d p, or d p is not positive
 pub ratio_keeps : (x d t : ℚ) → zero_ℚ ≤ℚ x → t *ℚ d ≤ℚ x → zero_ℚ ≤ℚ x +ℚ neg_ℚ t *ℚ d

@@ -1,5 +1,5 @@
 -- How a row comes in force.
-use Rattle.std.proofs.Common.{ℕ, ◌≡◌, ◌≢◌, ◌+◌, ◌<◌, ◌≤◌, sym, ◌∙◌, ap, subst, List, [], ◌∷◌, ◌++◌, length, get_or, set, Option, Some, None, Bool, true, false, arith, unwrap_or, length-set, get_or-set_same, get_or-set_other, length-append}
+use Rattle.std.proofs.Common.{ℕ, ◌≡◌, ◌≢◌, ◌+◌, ◌<◌, sym, ◌∙◌, ap, subst, List, [], ◌∷◌, ◌++◌, length, get_or, set, Option, Some, None, Bool, true, false, arith, unwrap_or, get_or-set_same, get_or-set_other, length-append}
 use Rattle.std.proofs.Math.Decide.{ℕ_discrete}
 use Rattle.exact_num.specs.Q.{ℚ}
 use Rattle.exact_num.specs.Ops.{zero_ℚ, one_ℚ, neg_ℚ, ◌*ℚ◌, neg-*ℚ, one-*ℚ}
@@ -21,11 +21,9 @@ use Rattle.exact_simplex.proofs.DenseLaws.{num-get}
 use Rattle.exact_simplex.specs.Inverse.{inv_of, list_at}
 use Rattle.exact_simplex.specs.Enter.{Helps, IsExtreme}
 use Rattle.exact_simplex.specs.States.{Okay, Limits, state_of, driven_state_of, in_force}
-use Rattle.exact_simplex.specs.Basis.{IsBasis}
-use Rattle.exact_simplex.specs.Simplex.{IsFeasible}
-use Rattle.exact_simplex.proofs.SimplexLaws.{feasible_settled, state_of-slack}
-use Rattle.exact_simplex.specs.Tableau.{HasShape, basis_of, inverse_of, point_of}
-use Rattle.exact_simplex.specs.Progress.{size_of, column_of, side_of, IsTaskLists, IsProgress, IsRow}
+use Rattle.exact_simplex.proofs.SimplexLaws.{state_of-slack}
+use Rattle.exact_simplex.specs.Tableau.{basis_of, point_of}
+use Rattle.exact_simplex.specs.Progress.{size_of, IsTaskLists, IsProgress, IsRow}
 use Rattle.exact_simplex.specs.Drive.{Keeps, IsThere, EndsAt}
 use Rattle.exact_simplex.proofs.DriveLaws.{only_place, unbounded_blocked}
 use Rattle.exact_simplex.specs.Force.{IsRowOf, SuitsAt, Settles, Counts, IsInForce, SignedTo, IsStuck, SettlesOrShows, ForcesTo}
@@ -81,38 +79,9 @@ IsForce state.Waiting = ⊥
 IsForce state.Above = ⊥
 IsForce state.Below = ⊥
 
-is_driven_state : (up : Bool) → IsDrivenState (driven_state_of up)
-is_driven_state true = tt
-is_driven_state false = tt
-
-is_force : (k : RowKind) → IsForce (in_force k)
-is_force kind.AtMost = tt
-is_force kind.Equal = tt
-
-pub driven_state_moves : (up : Bool) → driven_state_of up ≢ state.Waiting
-driven_state_moves up e = subst (λ s. IsDrivenState s) e (is_driven_state up)
-
-pub driven_state_other : (up : Bool) → driven_state_of up ≢ state.AtLeast
-driven_state_other up e = subst (λ s. IsDrivenState s) e (is_driven_state up)
-
-pub force_holds : (k : RowKind) → in_force k ≢ state.Waiting
-force_holds k e = subst (λ s. IsForce s) e (is_force k)
-
 pub okay_zero : (k : RowKind) (x : ℚ) → x ≡ zero_ℚ → Okay (in_force k) x
 okay_zero kind.AtMost x e = subst (λ q. zero_ℚ ≤ℚ q) (sym e) (≤ℚ_refl zero_ℚ)
 okay_zero kind.Equal x e = e
-
-pub settles : {N : Type 0} (value : N → ℚ) (task : Task N) (row : ℕ) (s : RowState) (old new : Progress N) → IsProgress value task old → row < size_of task → s ≢ state.Waiting → SuitsAt value task old row s
-    → new.tableau ≡ old.tableau → new.states.items ≡ set old.states.items row s → IsProgress value task new
-settles value task row s old new was l some suits same states = record {
-  shape = subst (λ t. HasShape (size_of task) t) (sym same) was.shape;
-  states_length = ap length states ∙ length-set old.states.items row s ∙ was.states_length;
-  within = subst (λ t. (q : ℕ) → q < size_of task → basis_of t q < task.columns + size_of task) (sym same) was.within;
-  basis = subst (λ t. IsBasis (size_of task) (column_of value task) (side_of value task) (basis_of t) (inverse_of value t) (point_of value t)) (sym same) was.basis;
-  feasible = subst (λ t. IsFeasible (size_of task) task.columns new.states.items (basis_of t) (point_of value t)) (sym same)
-      (subst (λ xs. IsFeasible (size_of task) task.columns xs (basis_of old.tableau) (point_of value old.tableau)) (sym states)
-      (feasible_settled (size_of task) task.columns row old.states.items s (basis_of old.tableau) (point_of value old.tableau) (let e = was.states_length in omega arith) some suits was.feasible));
-}
 
 -- a value that suits, where the slack stands at its own place
 pub suits_here : {N : Type 0} (value : N → ℚ) (task : Task N) (row : ℕ) (s : RowState) (p : Progress N) → IsProgress value task p → row < size_of task → basis_of p.tableau row ≡ task.columns + row → Okay s (point_of value p.tableau row) → SuitsAt value task p row s
@@ -126,13 +95,6 @@ point_is value task row p x is l here = num-get value p.tableau.point.items row 
 pub waiting_suits : {N : Type 0} (value : N → ℚ) (task : Task N) (row : ℕ) (s : RowState) (p : Progress N) → IsProgress value task p → row < size_of task → get_or p.states.items row state.Waiting ≡ state.Waiting
     → Okay s (point_of value p.tableau row) → SuitsAt value task p row s
 waiting_suits value task row s p is l waits okay = suits_here value task row s p is l (is.feasible.own_place row l waits) okay
-
--- a row that came in force at once
-pub forced_at_once : {N : Type 0} (value : N → ℚ) (task : Task N) (row limit : ℕ) (k : RowKind) (a b : Progress N) (steps : ℕ) → a.pivots ≤ limit → Settles value task row (in_force k) a b → Counts limit a b steps steps × IsInForce value task row k a b
-forced_at_once value task row limit k a b steps l is = (
-  record { counted = let e = is.pivots in omega arith; within = let e = is.pivots in omega arith },
-  record { progress = is.progress; states = is.states },
-)
 
 -- a row is in force after it was driven
 pub forced_after : {N : Type 0} (value : N → ℚ) (task : Task N) (row limit : ℕ) (k : RowKind) (up : Bool) (a b c e : Progress N) (steps steps' : ℕ)
@@ -165,11 +127,6 @@ pub state_after : {N : Type 0} (value : N → ℚ) (task : Task N) (row limit : 
 state_after value task row limit s a b c steps steps' is l first keeps =
     ap (λ v. get_or v.items row state.Waiting) keeps.states ∙ ap (λ xs. get_or xs row state.Waiting) first.states
     ∙ get_or-set_same a.states.items row s state.Waiting (let e = is.states_length in omega arith)
-
--- the row's state in the drive
-pub driven_state : {N : Type 0} (value : N → ℚ) (task : Task N) (row : ℕ) (up : Bool) (a b : Progress N) → IsProgress value task a → row < size_of task → Settles value task row (driven_state_of up) a b → get_or b.states.items row state.Waiting ≢ state.AtLeast
-driven_state value task row up a b is l first e =
-    driven_state_other up (sym (get_or-set_same a.states.items row (driven_state_of up) state.Waiting (let w = is.states_length in omega arith)) ∙ ap (λ xs. get_or xs row state.Waiting) (sym first.states) ∙ e)
 
 limits_by : (up : Bool) (d : ℚ) → Helps up d → Limits (driven_state_of up) d
 limits_by true d h = h

@@ -1,6 +1,5 @@
 -- Laws of specs/Simplex.
-use Rattle.std.proofs.Common.{ℕ, ◌≡◌, ◌≢◌, ◌+◌, ◌-◌, ◌<◌, ◌≤◌, sym, ◌∙◌, ap, subst, List, get_or, set, length, arith, if◌then◌else◌, Bool, true, false, refl, get_or-set_same, get_or-set_other}
-use Rattle.std.proofs.lemmas.Bool.{ltb-false}
+use Rattle.std.proofs.Common.{ℕ, ◌≡◌, ◌≢◌, ◌+◌, ◌-◌, ◌<◌, sym, ◌∙◌, ap, subst, List, get_or, arith, if◌then◌else◌, Bool, true, false, refl}
 use Rattle.std.specs.Prelude.{nat_lt}
 use Rattle.std.proofs.Math.Decide.{ℕ_discrete}
 use Rattle.exact_num.specs.Q.{ℚ}
@@ -65,28 +64,3 @@ module _ (size n v : ℕ) (states : List RowState) (basis basis' : ℕ → ℕ) 
             ] in
             go (ℕ_discrete i place);
       }
-
--- a row gets another state, which suits the places of its slack
-pub feasible_settled : (size n r : ℕ) (states : List RowState) (s : RowState) (basis : ℕ → ℕ) (x : ℕ → ℚ) → r < length states → s ≢ state.Waiting
-    → ((p : ℕ) → p < size → basis p ≡ n + r → Okay s (x p)) → IsFeasible size n states basis x → IsFeasible size n (set states r s) basis x
-feasible_settled size n r states s basis x l some suits was = record {
-  okay = λ p j.
-      let go : Dec (basis p ≡ n + r) → Okay (state_of n (set states r s) (basis p)) (x p) = elim [
-        | yes e ↦ subst (λ u. Okay u (x p)) (sym (ap (state_of n (set states r s)) e ∙ state_of-slack n (set states r s) r ∙ get_or-set_same states r s state.Waiting l)) (suits p j e)
-        | no ne ↦ subst (λ u. Okay u (x p)) (sym (other_state (basis p) ne)) (was.okay p j)
-      ] in
-      go (ℕ_discrete (basis p) (n + r));
-  own_place = λ i j waits.
-      let go : Dec (i ≡ r) → basis i ≡ n + i = elim [
-        | yes e ↦ absurd (some (sym (ap (λ k. get_or (set states r s) k state.Waiting) e ∙ get_or-set_same states r s state.Waiting l) ∙ waits))
-        | no ne ↦ was.own_place i j (sym (get_or-set_other states r i s state.Waiting ne) ∙ waits)
-      ] in
-      go (ℕ_discrete i r);
-}
-  where
-    other_state : (v : ℕ) → v ≢ n + r → state_of n (set states r s) v ≡ state_of n states v
-    other_state v ne = by_case (nat_lt v n) refl
-      where
-        by_case : (b : Bool) → nat_lt v n ≡ b → (if b then state.AtLeast else get_or (set states r s) (v - n) state.Waiting) ≡ (if b then state.AtLeast else get_or states (v - n) state.Waiting)
-        by_case true e = refl
-        by_case false e = get_or-set_other states r (v - n) s state.Waiting (λ q. absurd (ne (let k : n ≤ v = ltb-false v n e in omega arith)))

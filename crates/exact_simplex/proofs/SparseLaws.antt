@@ -116,9 +116,6 @@ put_one value out e = record {
   rises = λ b h l. rises-push b out e l h;
 }
 
-pub moves_none : {N : Type 0} (value : N → ℚ) (target : List (Entry N)) (i : ℕ) (out : List (Entry N)) (place : ℕ) → i ≤ length target → MovesUpTo value target i out place i out
-moves_none value target i out place l = record { within = l; same = λ p. refl; meet = λ b m k h. record { between = b; within = k; meet = h } }
-
 pub moves_one : {N : Type 0} (value : N → ℚ) (target : List (Entry N)) (i : ℕ) (out : List (Entry N)) (place j : ℕ) (out' : List (Entry N)) (e : Entry N)
     → MovesUpTo value target i out place j out' → j < length target → e ≡ get_or target j e → e.place < place → MovesUpTo value target i out place (j + 1) (out' ++ e ∷ [])
 moves_one value target i out place j out' e so l is k = record {

@@ -1,5 +1,5 @@
 -- A slack that cannot be driven to 0 shows that no point meets the rows.
-use Rattle.std.proofs.Common.{ℕ, ◌≡◌, ◌≢◌, ◌+◌, ◌<◌, ◌≤◌, sym, ◌∙◌, ap, ap₂, subst, inl, inr, ◌⊎◌, List, length, get_or, set, arith, Option, Some, Bool, true, false, refl, get_or-set_same, get_or-set_other}
+use Rattle.std.proofs.Common.{ℕ, ◌≡◌, ◌≢◌, ◌+◌, ◌<◌, ◌≤◌, sym, ◌∙◌, ap, ap₂, subst, inl, inr, ◌⊎◌, List, length, get_or, arith, Option, Some, Bool, true, false, refl}
 use Rattle.std.proofs.Math.Decide.{ℕ_discrete}
 use Rattle.exact_num.specs.Q.{ℚ}
 use Rattle.exact_num.specs.Ops.{zero_ℚ, neg_ℚ, ◌+ℚ◌, ◌*ℚ◌, +ℚ-zero, zero-*ℚ}
@@ -21,7 +21,7 @@ use Rattle.exact_simplex.specs.declared.force.Blocked.{Blocked}
 use Rattle.exact_simplex.specs.declared.force.Blocked.TheVariants as blocked
 use Rattle.exact_simplex.specs.Final.{Describes}
 use Rattle.exact_simplex.proofs.FinalLaws.{product_is, last_apart}
-use Rattle.exact_simplex.specs.Rows.{AreForced, ForcesAll}
+use Rattle.exact_simplex.specs.Rows.{AreForced, Ascends, AscendsTo, ForcesAll}
 use Rattle.exact_simplex.specs.Scaled.{IsMultiplierFraction}
 use Rattle.exact_simplex.specs.Empty.{ShowsEmptyFraction}
 use Rattle.exact_simplex.specs.Task.{cell, row_at}
@@ -30,7 +30,6 @@ use Rattle.exact_simplex.specs.declared.progress.Progress.{Progress}
 use Rattle.exact_simplex.specs.declared.task.Lp.{Lp}
 use Rattle.exact_simplex.specs.declared.task.RowKind.{RowKind}
 use Rattle.exact_simplex.specs.declared.task.RowKind.TheVariants as kind
-use Rattle.exact_simplex.specs.declared.state.RowState.{RowState}
 use Rattle.exact_simplex.specs.declared.state.RowState.TheVariants as state
 
 -- a row that bounds its sum is in force, or its slack stands at its own place
@@ -111,24 +110,15 @@ none_shows value lp task old p r k z describes l kind_is forced kept shows =
             | yes e ↦ inr (ap (basis_of p.tableau) e ∙ shows.stuck.own_place ∙ ap (λ q. task.columns + q) (sym e), inr (up_by k shows.up (kind_is ∙ ap (λ q. (row_at lp q).kind) (sym e) ∙ bounds) shows.goes))
             | no ne ↦ elim (lt_or_le i r) [
               | inl before ↦ inl (kept i ne ∙ forced.done i before ∙ force_by (row_at lp i).kind bounds)
-              | inr behind ↦ inr (own_place i (let e = describes.size in omega arith) (kept i ne ∙ forced.ahead i behind), inl ne)
+              | inr behind ↦ elim (forced.ahead i behind) [
+                | inl waits ↦ inr (own_place i (let e = describes.size in omega arith) (kept i ne ∙ waits), inl ne)
+                | inr holds ↦ inl (kept i ne ∙ holds ∙ force_by (row_at lp i).kind bounds)
+              ]
             ]
           ] in
           go (ℕ_discrete i r);
-      gain = kept (length lp.rows) (λ e. absurd (omega arith)) ∙ forced.ahead (length lp.rows) (omega arith);
+      gain = kept (length lp.rows) (λ e. absurd (omega arith)) ∙ forced.gain;
     }
-
--- one row more is in force
-pub forced_more : (lp : Lp) (states states' : List RowState) (r : ℕ) (k : RowKind) → r < length states → k ≡ (row_at lp r).kind → states' ≡ set states r (in_force k) → AreForced lp states r → AreForced lp states' (r + 1)
-forced_more lp states states' r k l kind_is new forced = record {
-  done = λ i h.
-      let go : Dec (i ≡ r) → get_or states' i state.Waiting ≡ in_force (row_at lp i).kind = elim [
-        | yes e ↦ ap (λ xs. get_or xs i state.Waiting) new ∙ ap (λ q. get_or (set states r (in_force k)) q state.Waiting) e ∙ get_or-set_same states r (in_force k) state.Waiting l ∙ ap in_force kind_is ∙ ap (λ q. in_force (row_at lp q).kind) (sym e)
-        | no ne ↦ ap (λ xs. get_or xs i state.Waiting) new ∙ get_or-set_other states r i (in_force k) state.Waiting ne ∙ forced.done i (omega arith)
-      ] in
-      go (ℕ_discrete i r);
-  ahead = λ i h. ap (λ xs. get_or xs i state.Waiting) new ∙ get_or-set_other states r i (in_force k) state.Waiting (λ e. absurd (omega arith)) ∙ forced.ahead i (omega arith);
-}
 
 pub counts_then : {N : Type 0} (limit : ℕ) (a b c : Progress N) (s t u : ℕ) → Counts limit a b s t → Counts limit b c t u → Counts limit a c s u
 counts_then limit a b c s t u first second = record {
@@ -148,3 +138,9 @@ blocked_all {N = N} value lp task limit a b c s t u r k o h describes l kind_is 
       let w = e.1.shown.one_each in let v = e.1.stuck.is_row.one_each in omega arith,
     )
     by_case blocked.Stalled e = (counts_then limit a b c s t u first e.0, e.1)
+
+-- ---- rows that are in force from the start
+
+-- the gain was driven up and its drive did not reach the limit
+pub ascended : {N : Type 0} (value : N → ℚ) (task : Task N) (limit : ℕ) (old new : Progress N) (steps steps' : ℕ) (b : Bool) → b ≡ false → AscendsTo value task limit old new steps steps' b → Ascends value task limit old new steps steps'
+ascended value task limit old new steps steps' b is h = subst (λ c. AscendsTo value task limit old new steps steps' c) is h

@@ -15,10 +15,10 @@ use crate::drive::{Driven, drive};
 use crate::fault::Fault;
 use crate::force::{Blocked, row_of};
 use crate::progress::{Progress, Task};
-use crate::rows::force_rows;
+use crate::rows::{force_rows, lead_rows};
 use crate::sparse::Entry;
 use crate::start::start;
-use crate::task::{Lp, LpAnswer};
+use crate::task::{Lp, LpAnswer, LpRow, Plan, RowKind};
 use crate::values::values_of_columns;
 use exact_num::{Arith, Memory, Steps};
 use std::alloc::Global;
@@ -116,6 +116,7 @@ fn raise_gain<A: Arith, L: Ledger>(
 fn solve<A: Arith, L: Ledger>(
     alloc: Global,
     lp: &Lp,
+    plan: Plan,
     arith: &mut A,
     steps: &mut Steps<L>,
 ) -> Result<LpAnswer, Fault>
@@ -125,13 +126,26 @@ fn solve<A: Arith, L: Ledger>(
     let task = build(alloc, arith, lp)?;
     let mut progress = start(alloc, arith, &task)?;
     let limit = limit_of(lp);
-    match force_rows(alloc, arith, steps, lp, &task, &mut progress, limit)? {
+    lead_rows(lp, &task, &mut progress, plan.leading);
+    match force_rows(alloc, arith, steps, lp, plan, &task, &mut progress, limit)? {
         None => raise_gain(alloc, arith, steps, lp, &task, &mut progress, limit),
         Some(Blocked::Empty(y)) => empty(alloc, arith, lp, &y[..lp.rows.len()]),
         Some(Blocked::Stalled) => Ok(LpAnswer::Stalled {
             pivots: progress.pivots,
         }),
     }
+}
+
+/// The number of rows that bound their sums before the first that fixes it.
+fn bounds_before(rows: &[LpRow]) -> u32 {
+    let mut count = 0u32;
+    for row in rows {
+        match row.kind {
+            RowKind::Equal => return count,
+            RowKind::AtMost => count = count.saturating_add(1),
+        }
+    }
+    count
 }
 
 /// Solves a linear program by the simplex method in exact fractions (G. B. Dantzig, 1951), over the inverse
@@ -151,7 +165,25 @@ pub fn solve_lp<A: Arith, L: Ledger>(
     requires { IsTask lp.now }
     ensures { Answers lp.now (A.wides arith.old) (A.wides arith.new) steps.old steps.new result }
 {
-    match solve(alloc, lp, arith, steps) {
+    let plan = Plan {
+        leading: bounds_before(lp.rows.as_slice()),
+        ascent: None,
+    };
+    solve_by_plan(alloc, lp, plan, arith, steps)
+}
+
+/// Solves a linear program as `solve_lp` does, with rows that come in force in the order of a plan.
+pub fn solve_by_plan<A: Arith, L: Ledger>(
+    alloc: Global,
+    lp: &Lp,
+    plan: Plan,
+    arith: &mut A,
+    steps: &mut Steps<L>,
+) -> Result<LpAnswer, Memory>
+    requires { IsTask lp.now }
+    ensures { Answers lp.now (A.wides arith.old) (A.wides arith.new) steps.old steps.new result }
+{
+    match solve(alloc, lp, plan, arith, steps) {
         Ok(answer) => Ok(answer),
         Err(Fault::Wide) => Ok(LpAnswer::Wide),
         Err(Fault::Memory) => Err(Memory),
