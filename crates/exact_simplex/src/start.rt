@@ -70,5 +70,6 @@ pub(crate) fn start<A: Arith>(
         tableau,
         states,
         pivots: 0,
+        next: 0,
     })
 }
