@@ -1,6 +1,6 @@
-use crate::tasks::{answer, at_most, equal};
+use crate::tasks::{answer, answer_by_plan, at_most, equal};
 use exact_num::{Arith, Exact64, Exact128, Refusing};
-use exact_simplex::{LpAnswer, LpRow};
+use exact_simplex::{LpAnswer, LpRow, Plan};
 use std::alloc::Global;
 use std::test::Fail;
 
@@ -86,6 +86,21 @@ fn one_column_refused(rt: HostRuntime) -> Result<(), Fail> {
 #[test]
 fn three_columns_in_pairs(rt: HostRuntime) -> Result<(), Fail> {
     let found = answer_128(rt.alloc(), &[1, 1, 1], pairs(rt.alloc())?)?;
+    assert_eq!(rt;
+        best(&found),
+        Some((&[1i128, 1, 1][..], 2, &[1i128, 1, 1][..], 2))
+    );
+    Ok(())
+}
+
+#[test]
+fn three_columns_in_pairs_by_a_plan(rt: HostRuntime) -> Result<(), Fail> {
+    let plan = Plan {
+        leading: 1,
+        ascent: Some(1),
+    };
+    let rows = pairs(rt.alloc())?;
+    let found = answer_by_plan(rt.alloc(), &mut Exact128::new(), &[1, 1, 1], rows, plan)?;
     assert_eq!(rt;
         best(&found),
         Some((&[1i128, 1, 1][..], 2, &[1i128, 1, 1][..], 2))

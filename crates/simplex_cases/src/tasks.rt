@@ -4,7 +4,7 @@ ghost use Rattle.exact_simplex.specs.Task.{IsTask, ColumnsBelow};
 ghost use Rattle.simplex_cases.specs.Ranges.{RowsIn};
 
 use exact_num::{Arith, Steps};
-use exact_simplex::{Lp, LpAnswer, LpRow, RowKind, solve_lp};
+use exact_simplex::{Lp, LpAnswer, LpRow, Plan, RowKind, solve_by_plan, solve_lp};
 use std::alloc::Global;
 use std::marker::Brand;
 use std::sync::ledger::{Blank, Ledger};
@@ -68,13 +68,15 @@ fn is_task(lp: &Lp) -> bool
     are_in_range(lp.columns, lp.rows.as_slice())
 }
 
-/// The answer to the task with these gains and rows, with its pivots counted in a ledger.
+/// The answer to the task with these gains and rows, by a plan where there is one, with its pivots
+/// counted in a ledger.
 fn answer_counted<A: Arith, L: Ledger>(
     alloc: Global,
     arith: &mut A,
     blank: Blank,
     gain: &[i64],
     rows: Vec<LpRow>,
+    plan: Option<Plan>,
 ) -> Result<LpAnswer, Fail>
     requires name { blank.name ≡ L.name }
     requires parts { blank.parts ≡ L.parts }
@@ -93,7 +95,10 @@ fn answer_counted<A: Arith, L: Ledger>(
     if !is_task(&lp) {
         return Err(Fail::new("no task"));
     }
-    Ok(solve_lp(alloc, &lp, arith, &mut steps)?)
+    match plan {
+        None => Ok(solve_lp(alloc, &lp, arith, &mut steps)?),
+        Some(plan) => Ok(solve_by_plan(alloc, &lp, plan, arith, &mut steps)?),
+    }
 }
 
 /// The answer to the task with these gains and rows.
@@ -103,5 +108,16 @@ pub fn answer<A: Arith>(
     gain: &[i64],
     rows: Vec<LpRow>,
 ) -> Result<LpAnswer, Fail> {
-    answer_counted::<A, Brand>(alloc, arith, Blank::new(1), gain, rows)
+    answer_counted::<A, Brand>(alloc, arith, Blank::new(1), gain, rows, None)
+}
+
+/// The answer by a plan.
+pub fn answer_by_plan<A: Arith>(
+    alloc: Global,
+    arith: &mut A,
+    gain: &[i64],
+    rows: Vec<LpRow>,
+    plan: Plan,
+) -> Result<LpAnswer, Fail> {
+    answer_counted::<A, Brand>(alloc, arith, Blank::new(1), gain, rows, Some(plan))
 }
