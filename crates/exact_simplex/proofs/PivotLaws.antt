@@ -6,7 +6,7 @@ use Rattle.exact_num.specs.Ops.{zero_ℚ, one_ℚ, neg_ℚ, ◌+ℚ◌, ◌*ℚ�
 use Rattle.exact_num.specs.Sums.{sum_ℚ, sum_ℚ-same, sum_ℚ-add, sum_ℚ-scale, sum_ℚ-replaced, sum_ℚ-one, sum_ℚ-exchanged}
 use Rattle.exact_simplex.specs.Pivot.{IsLeftInverse, IsPivoted, dot}
 
--- the row of the sums: B1 and B3 pass a pivot
+-- a sum over the places with the columns there passes a pivot
 pub pivot_sums : (n r : ℕ) (d x x' c c' : ℕ → ℚ) (t v w : ℚ) → r < n → IsPivoted n r d x x' t
     → c' r ≡ w → ((p : ℕ) → p < n → p ≢ r → c' p ≡ c p)
     → sum_ℚ (λ p. d p *ℚ c p) n ≡ w → sum_ℚ (λ p. x p *ℚ c p) n ≡ v → sum_ℚ (λ p. x' p *ℚ c' p) n ≡ v
@@ -31,7 +31,7 @@ dot-less m y z y' a c h =
     ∙ sum_ℚ-add (λ k. y k *ℚ a k) (λ k. neg_ℚ c *ℚ (z k *ℚ a k)) m
     ∙ ap (λ u. dot y a m +ℚ u) (sum_ℚ-scale (neg_ℚ c) (λ k. z k *ℚ a k) m)
 
--- y * b is the value at place r: B2 and B3
+-- y * b is the value at place r
 pub dual_value : (m n r : ℕ) (y x b : ℕ → ℚ) (col : ℕ → ℕ → ℚ) → r < n
     → dot y (col r) m ≡ one_ℚ → ((p : ℕ) → p < n → p ≢ r → dot y (col p) m ≡ zero_ℚ)
     → ((k : ℕ) → k < m → sum_ℚ (λ p. x p *ℚ col p k) n ≡ b k) → dot y b m ≡ x r

@@ -24,7 +24,7 @@ pub record AreForced (lp : Lp) (states : List RowState) (count : ℕ) : Type 0 w
   pub ahead : (i : ℕ) → count ≤ i → WaitsOrHolds (row_at lp i).kind (get_or states i state.Waiting)
   pub gain : get_or states (length lp.rows) state.Waiting ≡ state.Waiting
 
--- no row before the first is at issue, and the rows behind one wait
+-- the rows from one on wait
 pub record AreLed (lp : Lp) (states : List RowState) (count : ℕ) : Type 0 where
   pub forced : AreForced lp states 0
   pub behind : (i : ℕ) → count ≤ i → get_or states i state.Waiting ≡ state.Waiting

@@ -10,6 +10,7 @@ ghost use Rattle.exact_simplex.specs.Task.{IsTask, pivot_limit};
 
 use crate::answer::{best, empty, ray};
 use crate::build::build;
+use crate::column_values::values_of_columns;
 use crate::dense::{add_times, append_number, repeated};
 use crate::drive::{Driven, drive};
 use crate::fault::Fault;
@@ -19,7 +20,6 @@ use crate::rows::{force_rows, lead_rows};
 use crate::sparse::Entry;
 use crate::start::start;
 use crate::task::{Lp, LpAnswer, LpRow, Plan, RowKind};
-use crate::values::values_of_columns;
 use exact_num::{Arith, Memory, Steps};
 use std::alloc::Global;
 use std::sync::ledger::Ledger;

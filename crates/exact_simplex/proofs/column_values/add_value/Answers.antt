@@ -1,6 +1,6 @@
 use Rattle.std.proofs.Common.{refl, arith}
 use Rattle.exact_simplex.proofs.ValueLemmas.{adds_value, adds_nothing}
-use Rattle.exact_simplex.proofs.values.add_value.Goals as goal
+use Rattle.exact_simplex.proofs.column_values.add_value.Goals as goal
 
 pub returns-in_ok-sum : goal.returns-in_ok-sum
 returns-in_ok-sum g c = (c.in_ok-sum.ensures.kept, adds_value g.A.Num.Fraction.value c.args.values.now c.args.variable c.args.number c.index-values-variable.result c.in_ok-sum.sum c.if-variable-values.true c.index-values-variable.is c.in_ok-sum.ensures.value)

@@ -1,6 +1,6 @@
 use Rattle.std.proofs.Common.{◌≡◌}
 use Rattle.exact_simplex.specs.Values.{AreValuesTo}
-use Rattle.exact_simplex.proofs.values.values_of_columns.Given as goal
+use Rattle.exact_simplex.proofs.column_values.values_of_columns.Given as goal
 
 abbrev pub invariant-loop-p : goal.invariant-loop-p
 invariant-loop-p g l = record {

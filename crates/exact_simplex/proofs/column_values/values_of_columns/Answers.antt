@@ -3,7 +3,7 @@ use Rattle.exact_num.specs.Whole.{int_ℚ-zero}
 use Rattle.exact_simplex.proofs.TableauLaws.{written}
 use Rattle.exact_simplex.specs.Values.{AddsValue}
 use Rattle.exact_simplex.proofs.ValueLemmas.{values_none, values_more}
-use Rattle.exact_simplex.proofs.values.values_of_columns.Goals as goal
+use Rattle.exact_simplex.proofs.column_values.values_of_columns.Goals as goal
 
 pub loop-p-init : goal.loop-p-init
 loop-p-init g c = record {
