@@ -1,0 +1,176 @@
+-- How a row comes in force.
+use Rattle.std.proofs.Common.{ℕ, ◌≡◌, ◌≢◌, ◌+◌, ◌<◌, sym, ◌∙◌, ap, subst, List, [], ◌∷◌, ◌++◌, length, get_or, set, Option, Some, None, Bool, true, false, arith, unwrap_or, get_or-set_same, get_or-set_other, length-append}
+use Rattle.std.proofs.Math.Decide.{ℕ_discrete}
+use Rattle.exact_num.specs.Q.{ℚ}
+use Rattle.exact_num.specs.Ops.{zero_ℚ, one_ℚ, neg_ℚ, ◌*ℚ◌, neg-*ℚ, one-*ℚ}
+use Rattle.exact_num.specs.Order.{◌≤ℚ◌, ≤ℚ_refl}
+use Rattle.exact_simplex.specs.declared.sparse.Entry.{Entry}
+use Rattle.exact_simplex.specs.declared.drive.Driven.{Driven}
+use Rattle.exact_simplex.specs.declared.drive.Driven.TheVariants as driven
+use Rattle.exact_simplex.specs.declared.force.Blocked.{Blocked}
+use Rattle.exact_simplex.specs.declared.force.Blocked.TheVariants as blocked
+use Rattle.exact_simplex.specs.declared.progress.Task.{Task}
+use Rattle.exact_simplex.specs.declared.progress.Progress.{Progress}
+use Rattle.exact_simplex.specs.declared.state.RowState.{RowState}
+use Rattle.exact_simplex.specs.declared.state.RowState.TheVariants as state
+use Rattle.exact_simplex.specs.declared.task.RowKind.{RowKind}
+use Rattle.exact_simplex.specs.declared.task.RowKind.TheVariants as kind
+use Rattle.exact_simplex.specs.Sparse.{at, NumberAt}
+use Rattle.exact_simplex.specs.Dense.{num}
+use Rattle.exact_simplex.proofs.DenseLaws.{num-get}
+use Rattle.exact_simplex.specs.Inverse.{inv_of, list_at}
+use Rattle.exact_simplex.specs.Enter.{Helps, IsExtreme}
+use Rattle.exact_simplex.specs.States.{Okay, Limits, state_of, driven_state_of, in_force}
+use Rattle.exact_simplex.proofs.SimplexLaws.{state_of-slack}
+use Rattle.exact_simplex.specs.Tableau.{basis_of, point_of}
+use Rattle.exact_simplex.specs.Progress.{size_of, IsTaskLists, IsProgress, IsRow}
+use Rattle.exact_simplex.specs.Drive.{Keeps, IsThere, EndsAt}
+use Rattle.exact_simplex.proofs.DriveLaws.{only_place, unbounded_blocked}
+use Rattle.exact_simplex.specs.Force.{IsRowOf, SuitsAt, Settles, Counts, IsInForce, SignedTo, IsStuck, SettlesOrShows, ForcesTo}
+use Rattle.exact_simplex.proofs.ListLemmas.{num-end, num-front, set_twice}
+
+-- ---- a row with all its numbers
+
+pub row_of_more : {N : Type 0} (value : N → ℚ) (inverse : List (List (Entry N))) (row k : ℕ) (ys : List N) (found : Option N) (none : N) → value none ≡ zero_ℚ → NumberAt value (list_at inverse k) row found
+    → IsRowOf value inverse row k ys → IsRowOf value inverse row (k + 1) (ys ++ unwrap_or found none ∷ [])
+row_of_more {N = N} value inverse row k ys found none zero_is is so = record {
+  one_each = let e = so.one_each in let a = length-append ys (unwrap_or found none ∷ []) in omega arith;
+  same = λ j l.
+      let go : Dec (j ≡ k) → num value (ys ++ unwrap_or found none ∷ []) j ≡ inv_of value inverse j row = elim [
+        | yes e ↦
+            ap (num value (ys ++ unwrap_or found none ∷ [])) (e ∙ sym so.one_each) ∙ num-end value ys (unwrap_or found none) ∙ number found is ∙ ap (λ i. inv_of value inverse i row) (sym e)
+        | no ne ↦ num-front value ys (unwrap_or found none) j (let e = so.one_each in omega arith) ∙ so.same j (omega arith)
+      ] in
+      go (ℕ_discrete j k);
+}
+  where
+    number : (o : Option N) → NumberAt value (list_at inverse k) row o → value (unwrap_or o none) ≡ inv_of value inverse k row
+    number (Some x) h = sym h
+    number None h = zero_is ∙ sym h
+
+-- one opposite more
+pub opposite_more : {N : Type 0} (value : N → ℚ) (y : List N) (k : ℕ) (z : List N) (minus old new : N) → k < length y → old ≡ get_or y k old → value minus ≡ neg_ℚ one_ℚ → value new ≡ value minus *ℚ value old
+    → SignedTo value false y k z → SignedTo value false y (k + 1) (z ++ new ∷ [])
+opposite_more value y k z minus old new l here minus_is times so = record {
+  one_each = let e = so.one_each in let a = length-append z (new ∷ []) in omega arith;
+  same = λ j h.
+      let go : Dec (j ≡ k) → num value (z ++ new ∷ []) j ≡ neg_ℚ (num value y j) = elim [
+        | yes e ↦
+            ap (num value (z ++ new ∷ [])) (e ∙ sym so.one_each) ∙ num-end value z new ∙ times ∙ ap (λ m. m *ℚ value old) minus_is ∙ neg-*ℚ one_ℚ (value old)
+            ∙ ap neg_ℚ (one-*ℚ (value old) ∙ sym (num-get value y k old l here) ∙ ap (num value y) (sym e))
+        | no ne ↦ num-front value z new j (let e = so.one_each in omega arith) ∙ so.same j (omega arith)
+      ] in
+      go (ℕ_discrete j k);
+}
+
+-- ---- another state
+
+abbrev IsDrivenState : RowState → Type 0
+IsDrivenState state.Below = Unit {0}
+IsDrivenState state.Above = Unit {0}
+IsDrivenState state.Waiting = ⊥
+IsDrivenState state.AtLeast = ⊥
+IsDrivenState state.Zero = ⊥
+
+abbrev IsForce : RowState → Type 0
+IsForce state.AtLeast = Unit {0}
+IsForce state.Zero = Unit {0}
+IsForce state.Waiting = ⊥
+IsForce state.Above = ⊥
+IsForce state.Below = ⊥
+
+pub okay_zero : (k : RowKind) (x : ℚ) → x ≡ zero_ℚ → Okay (in_force k) x
+okay_zero kind.AtMost x e = subst (λ q. zero_ℚ ≤ℚ q) (sym e) (≤ℚ_refl zero_ℚ)
+okay_zero kind.Equal x e = e
+
+-- a value that suits, where the slack stands at its own place
+pub suits_here : {N : Type 0} (value : N → ℚ) (task : Task N) (row : ℕ) (s : RowState) (p : Progress N) → IsProgress value task p → row < size_of task → basis_of p.tableau row ≡ task.columns + row → Okay s (point_of value p.tableau row) → SuitsAt value task p row s
+suits_here value task row s p is l own_place okay = λ q j e. subst (λ i. Okay s (point_of value p.tableau i)) (sym (only_place value task p row q is l own_place j e)) okay
+
+-- the value at the place of a row
+pub point_is : {N : Type 0} (value : N → ℚ) (task : Task N) (row : ℕ) (p : Progress N) (x : N) → IsProgress value task p → row < size_of task → x ≡ get_or p.tableau.point.items row x → point_of value p.tableau row ≡ value x
+point_is value task row p x is l here = num-get value p.tableau.point.items row x (let e = is.shape.point_length in omega arith) here
+
+-- a waiting row whose slack has a value that suits
+pub waiting_suits : {N : Type 0} (value : N → ℚ) (task : Task N) (row : ℕ) (s : RowState) (p : Progress N) → IsProgress value task p → row < size_of task → get_or p.states.items row state.Waiting ≡ state.Waiting
+    → Okay s (point_of value p.tableau row) → SuitsAt value task p row s
+waiting_suits value task row s p is l waits okay = suits_here value task row s p is l (is.feasible.own_place row l waits) okay
+
+-- a row is in force after it was driven
+pub forced_after : {N : Type 0} (value : N → ℚ) (task : Task N) (row limit : ℕ) (k : RowKind) (up : Bool) (a b c e : Progress N) (steps steps' : ℕ)
+    → Settles value task row (driven_state_of up) a b → Keeps value task limit b c steps steps' → Settles value task row (in_force k) c e → Counts limit a e steps steps' × IsInForce value task row k a e
+forced_after value task row limit k up a b c e steps steps' first keeps second = (
+  record {
+    counted = let x = first.pivots in let y = second.pivots in let z = keeps.counted in omega arith;
+    within = let y = second.pivots in let z = keeps.within in omega arith;
+  },
+  record {
+    progress = second.progress;
+    states = second.states ∙ ap (λ v. set v.items row (in_force k)) keeps.states ∙ ap (λ xs. set xs row (in_force k)) first.states ∙ set_twice a.states.items row (driven_state_of up) (in_force k);
+  },
+)
+
+pub counts_after : {N : Type 0} (value : N → ℚ) (task : Task N) (row limit : ℕ) (s : RowState) (a b c : Progress N) (steps steps' : ℕ) → Settles value task row s a b → Keeps value task limit b c steps steps' → Counts limit a c steps steps'
+counts_after value task row limit s a b c steps steps' first keeps = record {
+  counted = let x = first.pivots in let z = keeps.counted in omega arith;
+  within = keeps.within;
+}
+
+-- the slack of a row that was set going stands at its place
+pub own_place_after : {N : Type 0} (value : N → ℚ) (task : Task N) (row : ℕ) (s : RowState) (a b c : Progress N) (y : List N) → IsProgress value task a → row < size_of task → get_or a.states.items row state.Waiting ≡ state.Waiting
+    → Settles value task row s a b → IsThere value task row b c y → basis_of c.tableau row ≡ task.columns + row
+own_place_after value task row s a b c y is l waits first there = there.same ∙ ap (λ t. basis_of t row) first.tableau ∙ is.feasible.own_place row l waits
+
+-- and has the state that was set
+pub state_after : {N : Type 0} (value : N → ℚ) (task : Task N) (row limit : ℕ) (s : RowState) (a b c : Progress N) (steps steps' : ℕ) → IsProgress value task a → row < size_of task
+    → Settles value task row s a b → Keeps value task limit b c steps steps' → get_or c.states.items row state.Waiting ≡ s
+state_after value task row limit s a b c steps steps' is l first keeps =
+    ap (λ v. get_or v.items row state.Waiting) keeps.states ∙ ap (λ xs. get_or xs row state.Waiting) first.states
+    ∙ get_or-set_same a.states.items row s state.Waiting (let e = is.states_length in omega arith)
+
+limits_by : (up : Bool) (d : ℚ) → Helps up d → Limits (driven_state_of up) d
+limits_by true d h = h
+limits_by false d h = h
+
+-- where nothing helps any more, in the words of the caller
+pub stuck_after : {N : Type 0} (value : N → ℚ) (task : Task N) (row limit : ℕ) (up : Bool) (a b c : Progress N) (y y' : List N) (steps steps' : ℕ) (d : Driven N) → IsProgress value task a → row < size_of task → get_or a.states.items row state.Waiting ≡ state.Waiting
+    → Settles value task row (driven_state_of up) a b → Keeps value task limit b c steps steps' → y' ≡ y → d ≡ driven.Stuck → EndsAt value task row up limit b c y d → IsStuck value task row up c y'
+stuck_after value task row limit up a b c y y' steps steps' d is l waits first keeps same stuck ended =
+    let end = subst (λ e. EndsAt value task row up limit b c y e) stuck ended in
+    let own_place = own_place_after value task row (driven_state_of up) a b c y is l waits first end.0 in
+    record {
+      progress = keeps.progress;
+      own_place = own_place;
+      side = subst (λ s. Okay s (point_of value c.tableau row))
+          (ap (state_of task.columns c.states.items) own_place ∙ state_of-slack task.columns c.states.items row ∙ state_after value task row limit (driven_state_of up) a b c steps steps' is l first keeps)
+          (keeps.progress.feasible.okay row l);
+      is_row = subst (λ z. IsRow value (size_of task) c.tableau row z) (sym same) end.0.is_row;
+      extreme = subst (λ z. IsExtreme value task c.states.items z up) (sym same) end.1;
+    }
+
+-- it cannot be open: the row itself limits the step
+pub never_unbounded : {N : Type 0} (value : N → ℚ) (task : Task N) (row limit : ℕ) (up : Bool) (a b c : Progress N) (y : List N) (steps steps' entering : ℕ) (made : List (Entry N)) → IsTaskLists task → IsProgress value task a → row < size_of task → get_or a.states.items row state.Waiting ≡ state.Waiting
+    → Settles value task row (driven_state_of up) a b → Keeps value task limit b c steps steps' → (d : Driven N) → d ≡ driven.Unbounded entering made → EndsAt value task row up limit b c y d → ⊥
+never_unbounded value task row limit up a b c y steps steps' entering made lists is l waits first keeps d unbounded_there ended =
+    let end = subst (λ e. EndsAt value task row up limit b c y e) unbounded_there ended in
+    let there : state_of task.columns c.states.items (basis_of c.tableau row) ≡ driven_state_of up
+    = ap (state_of task.columns c.states.items) (own_place_after value task row (driven_state_of up) a b c y is l waits first end.0) ∙ state_of-slack task.columns c.states.items row
+    ∙ state_after value task row limit (driven_state_of up) a b c steps steps' is l first keeps in
+    unbounded_blocked value task c y up row entering made lists keeps.progress l end.0.is_row end.1
+    (λ h. subst (λ s. Limits s (at value made row)) (sym there) (limits_by up (at value made row) h))
+
+others_after : {N : Type 0} (value : N → ℚ) (task : Task N) (row limit : ℕ) (s : RowState) (a b c : Progress N) (steps steps' : ℕ) → Settles value task row s a b → Keeps value task limit b c steps steps'
+    → (i : ℕ) → i ≢ row → get_or c.states.items i state.Waiting ≡ get_or a.states.items i state.Waiting
+others_after value task row limit s a b c steps steps' first keeps i ne =
+    ap (λ v. get_or v.items i state.Waiting) keeps.states ∙ ap (λ xs. get_or xs i state.Waiting) first.states ∙ get_or-set_other a.states.items row i s state.Waiting ne
+
+-- the end of a drive that went no further, as the end of the whole
+pub forced_from : {N : Type 0} (value : N → ℚ) (task : Task N) (row limit : ℕ) (k : RowKind) (up : Bool) (a b c e : Progress N) (steps steps' : ℕ) (o : Option (Blocked N))
+    → Settles value task row (driven_state_of up) a b → Keeps value task limit b c steps steps' → SettlesOrShows value task row k c e o → ForcesTo value task row k limit a e steps steps' o
+forced_from value task row limit k up a b c e steps steps' None first keeps is = forced_after value task row limit k up a b c e steps steps' first keeps is
+forced_from value task row limit k up a b c e steps steps' (Some (blocked.Empty z)) first keeps is =
+    (counts_same (sym is.1), is.0, λ i ne. ap (λ p. get_or p.states.items i state.Waiting) is.1 ∙ others_after value task row limit (driven_state_of up) a b c steps steps' first keeps i ne)
+  where
+    counts_same : c ≡ e → Counts limit a e steps steps'
+    counts_same same = subst (λ p. Counts limit a p steps steps') same (counts_after value task row limit (driven_state_of up) a b c steps steps' first keeps)
+forced_from value task row limit k up a b c e steps steps' (Some blocked.Stalled) first keeps is = absurd is

@@ -1,0 +1,180 @@
+ghost use Rattle.std.specs.Prelude.{◌≡◌, ◌≤◌, ◌<◌, length};
+ghost use Rattle.std.proofs.Common.{get_or};
+ghost use Rattle.exact_simplex.specs.Ends.{Ends};
+ghost use Rattle.exact_simplex.specs.Final.{Describes};
+ghost use Rattle.exact_simplex.specs.Force.{WaitsOrHolds, ForcesTo};
+ghost use Rattle.exact_simplex.specs.Progress.{IsProgress, IsTaskLists, size_of};
+ghost use Rattle.exact_simplex.specs.Rows.{AreForced, ForcesAll, LeadsTo, AscendsTo};
+ghost use Rattle.exact_simplex.specs.Start.{Starts};
+ghost use Rattle.exact_simplex.specs.Task.{IsTask};
+ghost use Rattle.exact_simplex.specs.declared.state.RowState.TheVariants as state;
+
+use crate::drive::{Driven, drive};
+use crate::fault::Fault;
+use crate::force::{Blocked, force_row, row_of, set_state};
+use crate::progress::{Progress, Task};
+use crate::sparse::sign;
+use crate::state::RowState;
+use crate::task::{Lp, Plan, RowKind};
+use exact_num::{Arith, Fraction, Steps};
+use std::alloc::Global;
+use std::cmp::Ordering;
+use std::sync::ledger::Ledger;
+
+/// Brings a waiting row in force where it bounds its sum and its slack is not negative.
+fn lead_row<N: Fraction>(task: &Task<N>, progress: &mut Progress<N>, row: u32, kind: RowKind)
+    requires progress { IsProgress N.value task.now progress.old }
+    requires row { row < size_of task.now }
+    requires waits { get_or progress.old.states.items row state.Waiting ≡ state.Waiting }
+    ensures { LeadsTo N.value task.now row kind progress.old progress.new }
+{
+    match kind {
+        RowKind::Equal => {}
+        RowKind::AtMost => match sign(progress.tableau.point[row as usize]) {
+            Ordering::Less => {}
+            Ordering::Equal => set_state(task, progress, row, RowState::AtLeast),
+            Ordering::Greater => set_state(task, progress, row, RowState::AtLeast),
+        },
+    }
+}
+
+/// Brings the leading rows in force that their slacks allow.
+pub(crate) fn lead_rows<N: Fraction>(
+    lp: &Lp,
+    task: &Task<N>,
+    progress: &mut Progress<N>,
+    leading: u32,
+)
+    requires task { IsTask lp.now }
+    requires describes { Describes N.value lp.now task.now }
+    requires starts { Starts N.value task.now progress.old }
+    ensures progress { IsProgress N.value task.now progress.new }
+    ensures pivots { progress.new.pivots ≡ 0 }
+    ensures forced { AreForced lp.now progress.new.states.items 0 }
+{
+    let rows = lp.rows.as_slice();
+    for i in 0..rows.len() {
+        if i < leading as usize {
+            lead_row(task, progress, i as u32, rows[i].kind);
+        }
+    }
+}
+
+/// Drives the gain up, whatever it comes to. Says whether the pivots reached their limit.
+fn ascend<A: Arith, L: Ledger>(
+    alloc: Global,
+    arith: &mut A,
+    steps: &mut Steps<L>,
+    task: &Task<A::Num>,
+    progress: &mut Progress<A::Num>,
+    gain: u32,
+    limit: u64,
+) -> Result<bool, Fault>
+    requires task { IsTaskLists task.now }
+    requires progress { IsProgress A.Num.value task.now progress.old }
+    requires within { progress.old.pivots ≤ limit }
+    requires gain { gain < size_of task.now }
+    requires waits { get_or progress.old.states.items gain state.Waiting ≡ state.Waiting }
+    ensures { Ends (A.wides arith.old) (A.wides arith.new) (AscendsTo A.Num.value task.now limit progress.old progress.new steps.old steps.new) result }
+{
+    let mut y = row_of(alloc, arith, &progress.tableau.inverse, gain)?;
+    match drive(
+        alloc, arith, steps, task, progress, &mut y, gain, true, limit,
+    )? {
+        Driven::Left => Ok(false),
+        Driven::Stuck => Ok(false),
+        Driven::Unbounded { .. } => Ok(false),
+        Driven::Stalled => Ok(true),
+    }
+}
+
+/// Drives the gain up where the plan says so, before row `row`. Says whether the pivots reached their limit.
+fn ascend_before<A: Arith, L: Ledger>(
+    alloc: Global,
+    arith: &mut A,
+    steps: &mut Steps<L>,
+    task: &Task<A::Num>,
+    progress: &mut Progress<A::Num>,
+    plan: Plan,
+    row: u32,
+    gain: u32,
+    limit: u64,
+) -> Result<bool, Fault>
+    requires task { IsTaskLists task.now }
+    requires progress { IsProgress A.Num.value task.now progress.old }
+    requires within { progress.old.pivots ≤ limit }
+    requires gain { gain < size_of task.now }
+    requires waits { get_or progress.old.states.items gain state.Waiting ≡ state.Waiting }
+    ensures { Ends (A.wides arith.old) (A.wides arith.new) (AscendsTo A.Num.value task.now limit progress.old progress.new steps.old steps.new) result }
+{
+    match plan.ascent {
+        None => Ok(false),
+        Some(before) => {
+            if before == row {
+                return ascend(alloc, arith, steps, task, progress, gain, limit);
+            }
+            Ok(false)
+        }
+    }
+}
+
+/// Brings a row in force, unless it is already.
+fn take_row<A: Arith, L: Ledger>(
+    alloc: Global,
+    arith: &mut A,
+    steps: &mut Steps<L>,
+    task: &Task<A::Num>,
+    progress: &mut Progress<A::Num>,
+    row: u32,
+    kind: RowKind,
+    limit: u64,
+) -> Result<Option<Blocked<A::Num>>, Fault>
+    requires task { IsTaskLists task.now }
+    requires progress { IsProgress A.Num.value task.now progress.old }
+    requires within { progress.old.pivots ≤ limit }
+    requires row { row < size_of task.now }
+    requires waits { WaitsOrHolds kind (get_or progress.old.states.items row state.Waiting) }
+    ensures { Ends (A.wides arith.old) (A.wides arith.new) (ForcesTo A.Num.value task.now row kind limit progress.old progress.new steps.old steps.new) result }
+{
+    match progress.states[row as usize] {
+        RowState::Waiting => force_row(alloc, arith, steps, task, progress, row, kind, limit),
+        RowState::Above | RowState::Below | RowState::AtLeast | RowState::Zero => Ok(None),
+    }
+}
+
+/// Brings all rows in force, one after the other, and drives the gain up once before one of them where the
+/// plan says so.
+pub(crate) fn force_rows<A: Arith, L: Ledger>(
+    alloc: Global,
+    arith: &mut A,
+    steps: &mut Steps<L>,
+    lp: &Lp,
+    plan: Plan,
+    task: &Task<A::Num>,
+    progress: &mut Progress<A::Num>,
+    limit: u64,
+) -> Result<Option<Blocked<A::Num>>, Fault>
+    requires task { IsTask lp.now }
+    requires describes { Describes A.Num.value lp.now task.now }
+    requires progress { IsProgress A.Num.value task.now progress.old }
+    requires within { progress.old.pivots ≤ limit }
+    requires forced { AreForced lp.now progress.old.states.items 0 }
+    ensures { Ends (A.wides arith.old) (A.wides arith.new) (ForcesAll A.Num.value lp.now task.now limit progress.old progress.new steps.old steps.new) result }
+{
+    let rows = lp.rows.as_slice();
+    for i in 0..rows.len() {
+        let kind = rows[i].kind;
+        let gain = rows.len() as u32;
+        if ascend_before(
+            alloc, arith, steps, task, progress, plan, i as u32, gain, limit,
+        )? {
+            return Ok(Some(Blocked::Stalled));
+        }
+        if let Some(blocked) = take_row(
+            alloc, arith, steps, task, progress, i as u32, kind, limit,
+        )? {
+            return Ok(Some(blocked));
+        }
+    }
+    Ok(None)
+}
