@@ -1,0 +1,5 @@
+//! Worked cases of the score: tests alone.
+#![tactic(auto)]
+
+#[cfg(test)]
+mod score;
