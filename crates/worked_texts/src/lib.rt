@@ -1,5 +1,5 @@
-//! Worked cases of the outside of the program, of the readers and writers of its files, and of the text of a
-//! certificate, through the public calls of their crates: tests alone.
+//! Worked cases of the outside of the program, of the readers and writers of its files, of the score, and of the text
+//! of a certificate, through the public calls of their crates: tests alone.
 #![tactic(auto)]
 
 #[cfg(test)]
@@ -10,5 +10,7 @@ mod instance;
 mod measures;
 #[cfg(test)]
 mod outside;
+#[cfg(test)]
+mod score;
 #[cfg(test)]
 mod times;

@@ -1,0 +1,7 @@
+mod SumLemmas
+mod LineLemmas
+mod TableLemmas
+mod PackedLemmas
+mod RunLaws
+mod CallLaws
+mod ExitLaws

@@ -1,0 +1,16 @@
+use Rattle.std.proofs.Common.{◌≡◌, length, rules}
+use Rattle.std.proofs.lemmas.Result.{IfOk-weaker, IfErr-weaker}
+use Rattle.itc_score.proofs.RunLaws.{asked, names_explained, names_stopping}
+use Rattle.itc_score.proofs.command.decide.Goals as goal
+
+pub returns-clause-answers : goal.returns-clause-answers
+returns-clause-answers g c =
+    let two : length c.args.words.now ≡ 2 = search rules in
+    let are = asked c.args.words.now c.index-words-0.result c.index-words-1.result c.as_str.result.now c.as_str-2.result.now two c.index-words-0.is c.as_str.ensures.value c.index-words-1.is c.as_str-2.ensures.value in
+    IfOk-weaker c.score_files.result _ _ (λ a h. names_explained _ _ _ _ _ _ _ _ _ are h) c.score_files.ensures.answers
+
+pub returns-clause-stops : goal.returns-clause-stops
+returns-clause-stops g c =
+    let two : length c.args.words.now ≡ 2 = search rules in
+    let are = asked c.args.words.now c.index-words-0.result c.index-words-1.result c.as_str.result.now c.as_str-2.result.now two c.index-words-0.is c.as_str.ensures.value c.index-words-1.is c.as_str-2.ensures.value in
+    IfErr-weaker c.score_files.result _ _ (λ stop h. names_stopping _ _ _ _ _ _ _ _ are h) c.score_files.ensures.stops

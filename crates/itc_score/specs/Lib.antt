@@ -1,0 +1,12 @@
+pub mod Sums
+pub mod Score
+pub mod Places
+pub mod Packed
+pub mod Statuses
+pub mod Texts
+pub mod Run
+pub mod Calls
+pub mod Exits
+pub mod Causes
+pub mod Expected
+pub mod Samples
