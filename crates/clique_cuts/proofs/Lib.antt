@@ -1,0 +1,2 @@
+pub mod CliqueLaws
+pub mod SearchLaws

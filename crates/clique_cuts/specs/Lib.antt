@@ -1,0 +1,3 @@
+pub mod Separation
+pub mod Search
+pub mod Cliques
