@@ -4,7 +4,9 @@
 mod broken;
 mod cuts;
 mod groups;
+mod rounding;
 mod grow;
 
 pub use cuts::separate;
+pub use rounding::rounded;
 pub use packing_model::{Cut, Pool};
