@@ -2,8 +2,12 @@
 #![tactic(auto)]
 
 #[cfg(test)]
+mod closing;
+#[cfg(test)]
 mod model;
 #[cfg(test)]
 mod points;
+#[cfg(test)]
+mod rounding;
 #[cfg(test)]
 mod shape;

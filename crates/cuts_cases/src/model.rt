@@ -1,4 +1,5 @@
 use crate::points::{Case, judge_points};
+use crate::rounding::judge_rounding;
 use crate::shape::{Shape, problem_of};
 use packing_model::Model;
 use problem_core::BuildFault;
@@ -11,6 +12,8 @@ use std::test::Fail;
 pub enum Task<'a> {
     /// What points break.
     Points(&'a [Case]),
+    /// What points are rounded to.
+    Rounding,
 }
 
 fn model_of(alloc: Global, shape: &Shape) -> Result<Model, BuildFault> {
@@ -22,5 +25,6 @@ pub fn judge(rt: &impl Abort, alloc: Global, shape: &Shape, task: Task) -> Resul
     let model = model_of(alloc, shape)?;
     match task {
         Task::Points(cases) => judge_points(rt, alloc, &model, cases),
+        Task::Rounding => judge_rounding(rt, alloc, &model),
     }
 }

@@ -18,9 +18,9 @@ use values::Items;
 /// breaks none.
 #[derive(Clone, Copy)]
 pub struct Case {
-    den: i128,
-    entries: &'static [(u32, i128)],
-    broken: &'static [&'static [u32]],
+    pub den: i128,
+    pub entries: &'static [(u32, i128)],
+    pub broken: &'static [&'static [u32]],
 }
 
 /// Points of the two courses with three rooms each. Each course has three patterns of two meetings in three
@@ -161,21 +161,21 @@ fn are_parts(den: i128, entries: &[(u32, i128)]) -> bool
     ensures { result ≡ list_all (is_part den) entries.now }
 {
     for entry in entries {
-        if !is_part(den, entry.1) {
+        if !is_part(den, *entry) {
             return false;
         }
     }
     true
 }
 
-fn is_part(den: i128, x: i128) -> bool
-    ensures { (p : ℕ) → result ≡ is_part den (p, x) }
+fn is_part(den: i128, entry: (u32, i128)) -> bool
+    ensures { result ≡ is_part den entry }
 {
-    0 < x && x <= den
+    0 < entry.1 && entry.1 <= den
 }
 
 /// The point of the case.
-fn point_of(alloc: Global, model: &Model, case: Case) -> Result<Point, Fail>
+pub fn point_of(alloc: Global, model: &Model, case: Case) -> Result<Point, Fail>
     ensures { IfOk result (λ x. IsPointOf (packing model.now) x) }
 {
     if case.den <= 0 || case.den > 1_000_000_000_000_000_000_000_000 {
