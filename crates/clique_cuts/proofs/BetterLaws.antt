@@ -1,7 +1,6 @@
 -- Choices that are better than the best value at a node.
-use Rattle.std.proofs.Common.{ℕ, ◌≡◌, ◌<◌, ◌≤◌, ◌*◌, ◌^◌, arith, refl, sym, ◌∙◌, ap, subst, Bool, true, List, length}
-use Rattle.std.specs.Prelude.{ℤ, pos, ◌-ℤ◌, ◌≤ℤ◌, ◌==◌, nat_lt, int_le, Option, Some, None}
-use Rattle.std.specs.List.{list_all}
+use Rattle.std.proofs.Common.{ℕ, ◌≡◌, ◌*◌, ◌^◌, arith, refl, sym, ◌∙◌, ap, subst, true, List, length}
+use Rattle.std.specs.Prelude.{ℤ, pos, ◌-ℤ◌, ◌≤ℤ◌, int_le, Option, Some, None}
 use Rattle.std.proofs.lemmas.Int.{ints}
 use mir.Syntax.{w64}
 use mir.Val.{to_z, of_z}
@@ -19,7 +18,7 @@ use Rattle.packing_model.specs.Closing.{choice_of}
 use Rattle.packing_model.specs.Nodes.{IsValidFixing}
 use Rattle.packing_model.specs.declared.fixing.Fixing.{Fixing}
 use Rattle.packing_model.proofs.NodeLemmas.{known_at}
-use Rattle.search_nodes.specs.Choices.{IsHeld, IsMore, weighs}
+use Rattle.search_nodes.specs.Choices.{IsMore}
 use Rattle.search_nodes.proofs.ChoiceLaws.{value-passing, chosen_weighs}
 use Rattle.clique_cuts.specs.Better.{IsBetter, MeetsAll, ReachesFloor}
 

@@ -1,15 +1,14 @@
 -- The search over groups of entries finds what is broken.
-use Rattle.std.proofs.Common.{ℕ, ◌≡◌, ◌≢◌, ◌<◌, ◌≤◌, arith, refl, sym, ◌∙◌, ap, subst, zero, suc, Bool, true, false, not, ◌&&◌, ◌||◌, List, [], ◌∷◌, length, get_or, map, inl, inr, ◌+◌, ◌++◌, Option, Some, None}
+use Rattle.std.proofs.Common.{ℕ, ◌≡◌, ◌≢◌, ◌<◌, arith, refl, sym, ◌∙◌, ap, subst, zero, suc, Bool, true, false, not, ◌&&◌, ◌||◌, List, [], ◌∷◌, length, get_or, map, inl, inr, ◌+◌, ◌++◌, Option, Some, None}
 use Rattle.std.specs.Prelude.{ℤ, pos, ◌+ℤ◌, ◌≤ℤ◌, ◌<ℤ◌, ◌⊎◌, ◌==◌, nat_lt, int_lt, int_le, MatchOption}
 use Rattle.std.specs.List.{list_all, list_any, All, Contains}
 use Rattle.std.specs.List.Sorted.{IsPermutation}
 use Rattle.std.proofs.lemmas.Int.{ints}
-use Rattle.std.proofs.lemmas.Bool.{and_parts, and_from, or_parts, or_left, or_right, or_cases, cases_Bool, cases_eq, lt-ltb, ltb-true, ne_eqb, eq-eqb, eqb-true, true≢false, not-true}
-use Rattle.std.proofs.lemmas.List.Folds.{list_any_at, list_all_at}
+use Rattle.std.proofs.lemmas.Bool.{and_parts, and_from, or_parts, or_cases, cases_Bool, cases_eq, ltb-true, ne_eqb, eq-eqb, eqb-true, true≢false, not-true}
+use Rattle.std.proofs.lemmas.List.Folds.{list_any_at}
 use Rattle.std.proofs.lemmas.List.Elements.{Contains-append_left, Contains-push, All-push}
-use Rattle.std.proofs.lemmas.List.Sorted.{All-permutation, Contains-permutation}
+use Rattle.std.proofs.lemmas.List.Sorted.{Contains-permutation}
 use Rattle.numbers.specs.Sums.{member, distinct}
-use Rattle.numbers.specs.Below.{any_below, any_below_at}
 use Rattle.problem_core.specs.Facts.{Facts, course_of}
 use Rattle.problem_core.specs.Courses.{is_of_course}
 use Rattle.meeting_patterns.specs.Pattern.{within, clash, is_same, share_event, share_a_slot, pattern_at, patterns_of}
@@ -23,7 +22,7 @@ use Rattle.search_nodes.specs.Points.{entry_of, is_part, IsPointOf}
 use Rattle.search_nodes.proofs.ClashLaws.{clash_back}
 use Rattle.clique_cuts.specs.Separation.{KeepsPairs, KeepsTriples}
 use Rattle.clique_cuts.specs.declared.broken.Broken.TheVariants.{Pair, Triple}
-use Rattle.clique_cuts.specs.Search.{IsEntry, IsBroken, can_lead, two_exceed, three_exceed, can_follow, clashes_with_both, can_end, breaks_with, breaks_from, breaks_in, group_of, group_at, AreGrouped, AreEntries}
+use Rattle.clique_cuts.specs.Search.{IsEntry, IsBroken, can_lead, two_exceed, three_exceed, can_follow, clashes_with_both, can_end, breaks_with, breaks_from, breaks_in, group_at, AreGrouped, AreEntries}
 use Rattle.clique_cuts.specs.declared.groups.Kind.{Kind}
 use Rattle.clique_cuts.specs.declared.groups.Kind.TheVariants.{Room, Course}
 

@@ -4,9 +4,9 @@
 mod broken;
 mod cuts;
 mod groups;
-mod rounding;
 mod grow;
+mod rounding;
 
 pub use cuts::separate;
-pub use rounding::rounded;
 pub use packing_model::{Cut, Pool};
+pub use rounding::rounded;

@@ -1,4 +1,4 @@
-use Rattle.std.proofs.Common.{sym, ap, ap₂, ◌∙◌, subst, ◌^◌}
+use Rattle.std.proofs.Common.{sym, ap₂, ◌∙◌, subst, ◌^◌}
 use Rattle.std.specs.Prelude.{pos, ◌-ℤ◌, int_le}
 use Rattle.duality.specs.Sums.{IsWithin}
 use Rattle.clique_cuts.proofs.BetterLaws.{reaches, plain, plain_value, le_is}

@@ -1,4 +1,4 @@
-use Rattle.std.proofs.Common.{rules, sym, subst, ap, ◌∙◌, ◌≤◌, length, List, ℕ, arith}
+use Rattle.std.proofs.Common.{rules, subst, ap, ◌∙◌, ◌≤◌, length, List, arith}
 use Rattle.problem_core.specs.Facts.{Facts}
 use Rattle.problem_core.specs.Choice.{IsLegal}
 use Rattle.meeting_patterns.specs.Made.{AreClashless}
