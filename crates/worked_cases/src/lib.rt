@@ -1,5 +1,5 @@
-//! Worked cases of fractions, problems, patterns, rows, nodes of a search, certificates and limits, through the
-//! public calls of their crates: tests alone.
+//! Worked cases of fractions, problems, patterns, rows, nodes of a search, points and their cuts, certificates and
+//! limits, through the public calls of their crates: tests alone.
 #![tactic(auto)]
 
 #[cfg(test)]
@@ -17,7 +17,11 @@ mod model;
 #[cfg(test)]
 mod packing;
 #[cfg(test)]
+mod points;
+#[cfg(test)]
 mod problem;
+#[cfg(test)]
+mod rounding;
 #[cfg(test)]
 mod shape;
 #[cfg(test)]

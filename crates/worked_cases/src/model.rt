@@ -2,6 +2,8 @@ use crate::certificate::{judge_floor_tree, judge_fronts, judge_text};
 use crate::closing::{judge_cuts, judge_small_leaves, judge_week};
 use crate::fixed::judge_fixed;
 use crate::packing::{judge_closed_once, judge_sizes};
+use crate::points::{Case, judge_points};
+use crate::rounding::judge_rounding;
 use crate::shape::{Shape, problem_of};
 use cert_checker::Reason;
 use packing_model::Model;
@@ -26,6 +28,10 @@ pub enum Task<'a> {
     FloorTree,
     /// What is known where no pattern is free.
     Fixed,
+    /// What points break.
+    Points(&'a [Case]),
+    /// What points are rounded to.
+    Rounding,
 }
 
 fn model_of(alloc: Global, shape: &Shape) -> Result<Model, BuildFault> {
@@ -49,5 +55,7 @@ fn perform(rt: &impl Abort, alloc: Global, model: &Model, task: Task) -> Result<
         Task::Text(text, line, reason) => judge_text(rt, alloc, model, text, line, reason),
         Task::FloorTree => judge_floor_tree(rt, alloc, model),
         Task::Fixed => judge_fixed(rt, alloc, model),
+        Task::Points(cases) => judge_points(rt, alloc, model, cases),
+        Task::Rounding => judge_rounding(rt, alloc, model),
     }
 }

@@ -1,0 +1,3 @@
+pub mod CliqueLaws
+pub mod SearchLaws
+pub mod BetterLaws

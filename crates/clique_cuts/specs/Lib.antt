@@ -1,0 +1,4 @@
+pub mod Separation
+pub mod Search
+pub mod Cliques
+pub mod Better
