@@ -229,7 +229,7 @@ fn main(rt: HostRuntime) -> io::Result<()> {
 PROGRAM
 sed -i 's/map, IfOk}/map, IfOk, MatchOption}/' "$bench/src/main.rt"
 for name in are_rising are_known are_parts; do
-    sed 's/cuts_cases.proofs.points/cuts_bench.proofs/' "$top/crates/cuts_cases/proofs/points/$name/Invariants.antt" >"$bench/proofs/$name/Invariants.antt"
+    sed 's/worked_cases.proofs.points/cuts_bench.proofs/' "$top/crates/worked_cases/proofs/points/$name/Invariants.antt" >"$bench/proofs/$name/Invariants.antt"
 done
 cd "$bench"
 rt run >"$work/log" 2>&1 || { cat "$work/log"; exit 1; }

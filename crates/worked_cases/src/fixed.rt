@@ -28,8 +28,7 @@ struct TwoPatterns {
 
 impl Objective for TwoPatterns {
     ghost use Rattle.std.specs.Prelude.{pos, Some};
-    ghost use Rattle.std.proofs.Common.{arith};
-    ghost use Rattle.std.proofs.lemmas.Int.{ints};
+    ghost use Rattle.worked_cases.specs.Objectives.{one_level, weight-within, floor-within, two_of_two};
 
     ghost count = { λ o. o.count };
 
@@ -39,15 +38,15 @@ impl Objective for TwoPatterns {
 
     ghost floor = { λ _. Some (λ pattern. pos 1, pos 2) };
 
-    ghost few_levels = { λ o. Prim.omega arith };
+    ghost few_levels = { λ o. one_level };
 
     ghost few_patterns = { λ o. o.few };
 
-    ghost small_weight = { λ o level pattern low high known. record { low = Prim.omega (arith, ints); high = Prim.omega (arith, ints) } };
+    ghost small_weight = { λ o level pattern low high known. weight-within };
 
-    ghost small_floor = { λ o pattern known. record { low = Prim.omega (arith, ints); high = Prim.omega (arith, ints) } };
+    ghost small_floor = { λ o pattern known. weight-within };
 
-    ghost small_number = { λ o. record { low = Prim.omega (arith, ints); high = Prim.omega (arith, ints) } };
+    ghost small_number = { λ o. floor-within 2 two_of_two };
 
     fn count(&self) -> u32 {
         self.count

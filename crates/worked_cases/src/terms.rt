@@ -8,9 +8,9 @@ use values::Items;
 struct Numbered;
 
 impl Objective for Numbered {
-    ghost use Rattle.std.specs.Prelude.{ℤ, pos, Option, None};
-    ghost use Rattle.std.proofs.Common.{rules, arith};
-    ghost use Rattle.std.proofs.lemmas.Int.{ints};
+    ghost use Rattle.std.specs.Prelude.{◌^◌, pos, None};
+    ghost use Rattle.packing_model.specs.Measures.{none-within};
+    ghost use Rattle.worked_cases.specs.Objectives.{two_levels, one_pattern, level-within};
 
     ghost count = { λ _. 1 };
 
@@ -20,15 +20,15 @@ impl Objective for Numbered {
 
     ghost floor = { λ _. None };
 
-    ghost few_levels = { λ o. Prim.search rules };
+    ghost few_levels = { λ o. two_levels };
 
-    ghost few_patterns = { λ o. Prim.search rules };
+    ghost few_patterns = { λ o. one_pattern };
 
-    ghost small_weight = { λ o level pattern low high known. record { low = Prim.omega (arith, ints); high = Prim.omega (arith, ints) } };
+    ghost small_weight = { λ o level pattern low high known. level-within level high };
 
-    ghost small_floor = { λ o pattern known. record { low = Prim.omega (arith, ints); high = Prim.omega (arith, ints) } };
+    ghost small_floor = { λ o pattern known. none-within (10 ^ 9) };
 
-    ghost small_number = { λ o. record { low = Prim.omega (arith, ints); high = Prim.omega (arith, ints) } };
+    ghost small_number = { λ o. none-within (10 ^ 12) };
 
     fn count(&self) -> u32 {
         1
