@@ -21,9 +21,3 @@ weight-within = record { low = omega (arith, ints); high = omega (arith, ints) }
 
 pub floor-within : (least : ℕ) → least ≤ 2 → IsWithin (10 ^ 12) (pos least)
 floor-within least small = record { low = omega (arith, ints); high = omega (arith, ints) }
-
-pub one_of_two : 1 ≤ 2
-one_of_two = omega arith
-
-pub two_of_two : 2 ≤ 2
-two_of_two = omega arith

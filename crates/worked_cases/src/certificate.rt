@@ -2,10 +2,11 @@ ghost use Rattle.std.specs.Prelude.{◌≤◌, IfOk};
 ghost use Rattle.cert_checker.specs.Trees.{IsNodeWithin};
 
 use crate::model::{Task, judge};
+use crate::objective::SomePatterns;
 use crate::shape::one_meeting;
 use cert_checker::{Reason, TreeAt, Verdict, Walk, check};
 use cert_text::Node;
-use duality::{FLOOR_LEVEL, Objective};
+use duality::FLOOR_LEVEL;
 use packing_model::{Leaf, Model, Pool, RowName, Term};
 use std::alloc::{AllocError, Global};
 use std::process::Abort;
@@ -80,60 +81,6 @@ fn judges_large_trees(rt: HostRuntime) -> Result<(), Fail> {
     judge(&rt, alloc, &one_meeting(), again)
 }
 
-/// One level, at which each pattern weighs 1, and a floor that asks for some pattern.
-#[derive(Clone, Copy)]
-struct SomePattern {
-    count: u32,
-    ghost few: { count ≤ 200000 },
-}
-
-impl Objective for SomePattern {
-    ghost use Rattle.std.specs.Prelude.{pos, Some};
-    ghost use Rattle.worked_cases.specs.Objectives.{one_level, weight-within, floor-within, one_of_two};
-
-    ghost count = { λ o. o.count };
-
-    ghost levels = { λ _. 1 };
-
-    ghost weight = { λ _ level pattern. pos 1 };
-
-    ghost floor = { λ _. Some (λ pattern. pos 1, pos 1) };
-
-    ghost few_levels = { λ o. one_level };
-
-    ghost few_patterns = { λ o. o.few };
-
-    ghost small_weight = { λ o level pattern low high known. weight-within };
-
-    ghost small_floor = { λ o pattern known. weight-within };
-
-    ghost small_number = { λ o. floor-within 1 one_of_two };
-
-    fn count(&self) -> u32 {
-        self.count
-    }
-
-    fn levels(&self) -> u32 {
-        1
-    }
-
-    fn weight(&self, _level: u32, _pattern: u32) -> i64 {
-        1
-    }
-
-    fn has_floor(&self) -> bool {
-        true
-    }
-
-    fn floor_weight(&self, _pattern: u32) -> i64 {
-        1
-    }
-
-    fn floor_number(&self) -> i64 {
-        1
-    }
-}
-
 /// The leaf of scale 0 whose one term is the floor's row.
 fn floor_leaf(alloc: Global) -> Result<Node, AllocError>
     ensures { IfOk result IsNodeWithin }
@@ -149,9 +96,7 @@ fn floor_leaf(alloc: Global) -> Result<Node, AllocError>
 /// What is said of a branch on the first pattern, and of the floor's leaf in both parts behind it.
 fn floor_reasons(alloc: Global, model: &Model) -> Result<[Option<Reason>; 3], Fail> {
     let pool = Pool::new(alloc);
-    let objective = SomePattern {
-        count: model.patterns().len(),
-    };
+    let objective = SomePatterns::new(model.patterns().len(), 1);
     let tree = TreeAt {
         model,
         pool: &pool,

@@ -8,8 +8,9 @@ ghost use Rattle.node_bound.specs.Bounds.{has_free};
 
 use crate::closing::{are_values, is_value};
 use crate::model::{Task, judge};
+use crate::objective::SomePatterns;
 use crate::shape::closed_once;
-use duality::{FLOOR_LEVEL, Objective};
+use duality::FLOOR_LEVEL;
 use node_bound::{Bounded, close_fixed, close_fixed_at, lowest_free};
 use packing_model::{At, Fixing, Leaf, Model, ObjectiveAt, Pool, RowName, is_free};
 use problem_core::Choice;
@@ -18,60 +19,6 @@ use std::alloc::Global;
 use std::process::Abort;
 use std::test::Fail;
 use values::Items;
-
-/// One level, at which each pattern weighs 1, and a floor that asks for two patterns.
-#[derive(Clone, Copy)]
-struct TwoPatterns {
-    count: u32,
-    ghost few: { count ≤ 200000 },
-}
-
-impl Objective for TwoPatterns {
-    ghost use Rattle.std.specs.Prelude.{pos, Some};
-    ghost use Rattle.worked_cases.specs.Objectives.{one_level, weight-within, floor-within, two_of_two};
-
-    ghost count = { λ o. o.count };
-
-    ghost levels = { λ _. 1 };
-
-    ghost weight = { λ _ level pattern. pos 1 };
-
-    ghost floor = { λ _. Some (λ pattern. pos 1, pos 2) };
-
-    ghost few_levels = { λ o. one_level };
-
-    ghost few_patterns = { λ o. o.few };
-
-    ghost small_weight = { λ o level pattern low high known. weight-within };
-
-    ghost small_floor = { λ o pattern known. weight-within };
-
-    ghost small_number = { λ o. floor-within 2 two_of_two };
-
-    fn count(&self) -> u32 {
-        self.count
-    }
-
-    fn levels(&self) -> u32 {
-        1
-    }
-
-    fn weight(&self, _level: u32, _pattern: u32) -> i64 {
-        1
-    }
-
-    fn has_floor(&self) -> bool {
-        true
-    }
-
-    fn floor_weight(&self, _pattern: u32) -> i64 {
-        1
-    }
-
-    fn floor_number(&self) -> i64 {
-        2
-    }
-}
 
 /// What is counted at a node.
 #[derive(Clone, Copy)]
@@ -279,9 +226,7 @@ fn by_patterns(
         return Err(Fail::new("the best value is out of bounds"));
     }
     let pool = Pool::new(alloc);
-    let objective = TwoPatterns {
-        count: model.patterns().len(),
-    };
+    let objective = SomePatterns::new(model.patterns().len(), 2);
     let at = ObjectiveAt {
         model,
         pool: &pool,
@@ -321,9 +266,7 @@ fn weight_of(alloc: Global, model: &Model) -> Result<i64, Fail> {
     if !model.problem().is_legal(&choice) {
         return Err(Fail::new("not legal"));
     }
-    let objective = TwoPatterns {
-        count: model.patterns().len(),
-    };
+    let objective = SomePatterns::new(model.patterns().len(), 2);
     Ok(weigh_choice(alloc, model, &objective, 1, &choice)?)
 }
 

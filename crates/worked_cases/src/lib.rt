@@ -15,6 +15,8 @@ mod limits;
 #[cfg(test)]
 mod model;
 #[cfg(test)]
+mod objective;
+#[cfg(test)]
 mod packing;
 #[cfg(test)]
 mod points;
