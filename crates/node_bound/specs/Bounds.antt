@@ -1,10 +1,13 @@
 -- What is known at a node of a search.
-use Rattle.std.specs.Prelude.{ℕ, ℤ, ◌≡◌, ◌≤◌, ◌<ℤ◌, ◌+◌, ◌-◌, ◌*◌, Bool, true, Option, is_some, if◌then◌else◌, List, length}
+use Rattle.std.specs.Prelude.{ℕ, ℤ, ◌≡◌, ◌≤◌, ◌<ℤ◌, ◌+◌, ◌-◌, ◌*◌, ◌^◌, Bool, true, Option, is_some, if◌then◌else◌, List, length}
 use Rattle.numbers.specs.Below.{any_below}
 use Rattle.problem_core.specs.Facts.{Facts}
 use Rattle.problem_core.specs.Choice.{IsLegal}
 use Rattle.problem_core.specs.Measures.{measure}
 use Rattle.exact_num.specs.Arith.{Rose}
+use Rattle.meeting_patterns.specs.Pattern.{patterns_of}
+use Rattle.duality.specs.Sums.{IsWithin}
+use Rattle.packing_model.specs.Nodes.{AreTargets}
 use Rattle.duality.specs.Packing.{Packing, Weights, Stage, Fixing, is_free}
 use Rattle.duality.specs.Tree.{ends_at}
 use Rattle.duality.specs.Units.{free_count}
@@ -29,6 +32,14 @@ Decides p w s f bounded = ⊥
 abbrev pub IsBetterChoice : Facts → ℕ → List ℤ → ℤ → Bounded → Type 0
 IsBetterChoice p level targets best (Better a) = IsLegal p a.entries × HasTargets p level targets a.entries × (best <ℤ measure p level a.entries)
 IsBetterChoice p level targets best bounded = Unit {0}
+
+-- A node's level with its targets, over an objective of so many patterns and levels at which a legal choice
+-- weighs at most 10^12 in size.
+pub record IsLevelAt (p : Facts) (w : Weights) (count levels level : ℕ) (targets : List ℤ) : Type 0 where
+  pub counted : count ≡ length (patterns_of p)
+  pub high : level ≤ levels
+  pub targets_are : AreTargets level targets
+  pub small : (a : List ℕ) → IsLegal p a → IsWithin (10 ^ 12) (weighs p w level a)
 
 -- ---- where patterns are free
 

@@ -1,3 +1,5 @@
 pub mod Duals
 pub mod Fixed
 pub mod Bounds
+pub mod Tasks
+pub mod Answers

@@ -5,8 +5,10 @@ mod bound;
 mod fixed;
 mod free;
 mod laws;
+mod task;
 
-pub use bound::Bounded;
+pub use bound::{Bounded, Hints, bound_at};
 pub use fixed::{close_fixed, close_fixed_at};
 pub use free::lowest_free;
 pub use laws::bound_laws;
+pub use task::NodeTask;
