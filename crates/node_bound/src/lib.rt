@@ -2,9 +2,11 @@
 #![tactic(auto)]
 
 mod bound;
+mod closing;
 mod fixed;
 mod free;
 mod laws;
+mod point;
 mod task;
 
 pub use bound::{Bounded, Hints, bound_at};
