@@ -1,3 +1,9 @@
 pub mod DualLaws
 pub mod FixedLaws
 pub mod BoundLaws
+pub mod ListedLaws
+pub mod AmountLaws
+pub mod NameLaws
+pub mod RayLaws
+pub mod PrimalLaws
+pub mod WholeLaws

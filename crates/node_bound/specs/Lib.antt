@@ -3,3 +3,4 @@ pub mod Fixed
 pub mod Bounds
 pub mod Tasks
 pub mod Answers
+pub mod Amounts

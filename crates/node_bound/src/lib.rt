@@ -1,6 +1,7 @@
 //! What is known at a node of a search where no pattern is free: a leaf that closes there, or a better choice.
 #![tactic(auto)]
 
+mod amounts;
 mod bound;
 mod closing;
 mod fixed;
@@ -8,6 +9,7 @@ mod free;
 mod laws;
 mod point;
 mod task;
+mod whole;
 
 pub use bound::{Bounded, Hints, bound_at};
 pub use fixed::{close_fixed, close_fixed_at};

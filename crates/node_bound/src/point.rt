@@ -10,13 +10,15 @@ ghost use Rattle.node_bound.specs.Answers.{IsFeasible, IsNodePoint};
 ghost use Rattle.node_bound.specs.Fixed.{IsNode};
 ghost use Rattle.node_bound.specs.Tasks.{IsNodeTask};
 
+use crate::amounts::{amounts_of, listed};
 use crate::task::NodeTask;
 use duality::Objective;
 use packing_model::{ObjectiveAt, Point};
 use problem_core::Memory;
 use std::alloc::Global;
 
-/// The point over all patterns that a point of the linear program and the patterns that are taken make.
+/// The point over all patterns that a point of the linear program and the patterns that are taken make: a
+/// pattern that is taken has all of it, a free one the number of its column, and no other has an entry.
 pub(crate) fn point_at<O: Objective>(
     alloc: Global,
     at: &ObjectiveAt<O>,
@@ -32,10 +34,11 @@ pub(crate) fn point_at<O: Objective>(
     ensures den { IfOk result (λ p. p.den ≡ xden) }
     ensures value { IfOk result (λ p. sum_at (packing at.now.model.now) (O.weight at.now.objective.now at.now.level) p ≡ (gain_sum task.now.lp x.now +ℤ (xden *ℤ total (O.weight at.now.objective.now at.now.level) at.now.fixing.now.one))) }
 {
-    let _ = alloc;
-    let _ = at;
-    let _ = task;
-    let _ = x;
-    let _ = xden;
-    Err(Memory)
+    at.model.laws();
+    let count = at.model.patterns().len();
+    let columns = task.columns.as_slice();
+    let one = at.fixing.one.as_slice();
+    let amounts = amounts_of(alloc, count, columns, x, one, xden)?;
+    let entries = listed(alloc, &amounts)?;
+    Ok(Point { den: xden, entries })
 }
