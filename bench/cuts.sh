@@ -1,7 +1,8 @@
 #!/bin/sh
-# Times `separate` of crates/clique_cuts at points of a thousand patterns in halves, in one run: where nothing
-# is broken, and where one course of a hundred has three halves that clash in pairs. Prints processor time,
-# and what part of building the model each is.
+# Times `separate` and `rounded` of crates/clique_cuts at points of a thousand patterns in halves, in one run:
+# `separate` where nothing is broken, and where one course of a hundred has three halves that clash in pairs;
+# `rounded` against a best value that nothing exceeds, so that it seeks in both its ways and tests both. Prints
+# processor time, and what part of building the model each is.
 # It builds a small program beside copies of the crates, in a folder of its own, and runs it; the first time
 # that proves the crates, which takes minutes.
 # Usage: bench/cuts.sh (rt must be on the PATH)
@@ -31,8 +32,8 @@ ghost use Rattle.packing_model.specs.Built.{packing};
 ghost use Rattle.packing_model.specs.Rising.{is_rising, rises_from};
 ghost use Rattle.search_nodes.specs.Points.{IsPointOf, is_part};
 
-use clique_cuts::separate;
-use packing_model::{Model, Point};
+use clique_cuts::{rounded, separate};
+use packing_model::{Fixing, Measured, Model, ObjectiveAt, Point, Pool};
 use problem_core::{BuildFault, EventPart, Memory, Parts, Problem};
 use std::alloc::Global;
 use std::io;
@@ -201,6 +202,29 @@ fn cut_size(alloc: Global, model: &Model, broken: bool) -> Result<usize, Memory>
     }
 }
 
+/// How many better choices the point is rounded to at the first level, where none has more.
+fn rounded_count(alloc: Global, model: &Model) -> Result<usize, Memory> {
+    let Some(point) = point(alloc, model, false)? else {
+        return Ok(2);
+    };
+    let pool = Pool::new(alloc);
+    let fixing = Fixing::empty(alloc);
+    let objective = Measured::new(model);
+    let at = ObjectiveAt {
+        model,
+        pool: &pool,
+        fixing: &fixing,
+        objective: &objective,
+        level: 1,
+        targets: &[],
+        best: Some(4_000),
+    };
+    match rounded(alloc, &at, &point)? {
+        Some(_) => Ok(1),
+        None => Ok(0),
+    }
+}
+
 fn thousandths(part: Duration, whole: Duration) -> u128 {
     part.as_nanos().saturating_mul(1_000) / whole.as_nanos().max(1)
 }
@@ -214,6 +238,15 @@ fn time(rt: &HostRuntime, name: &str, model: &Model, broken: bool, built: Durati
     println!(rt; "  {name}: {micros} us, {ratio} thousandths of building the model, a cut of {size}")
 }
 
+fn time_rounding(rt: &HostRuntime, model: &Model, built: Duration) -> io::Result<()> {
+    let start = rt.thread_cpu_time()?;
+    let count = rounded_count(rt.alloc(), model).unwrap_or(2);
+    let took = rt.thread_cpu_time()?.saturating_sub(start);
+    let micros = took.as_micros();
+    let ratio = thousandths(took, built);
+    println!(rt; "  rounded: {micros} us, {ratio} thousandths of building the model, {count} better")
+}
+
 fn main(rt: HostRuntime) -> io::Result<()> {
     let start = rt.thread_cpu_time()?;
     let Ok(model) = model(rt.alloc()) else {
@@ -224,7 +257,8 @@ fn main(rt: HostRuntime) -> io::Result<()> {
     let micros = built.as_micros();
     println!(rt; "  model of {count} patterns: {micros} us")?;
     time(&rt, "nothing is broken", &model, false, built)?;
-    time(&rt, "one course is broken", &model, true, built)
+    time(&rt, "one course is broken", &model, true, built)?;
+    time_rounding(&rt, &model, built)
 }
 PROGRAM
 sed -i 's/map, IfOk}/map, IfOk, MatchOption}/' "$bench/src/main.rt"

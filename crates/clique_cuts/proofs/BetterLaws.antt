@@ -1,6 +1,10 @@
 -- Choices that are better than the best value at a node.
 use Rattle.std.proofs.Common.{ℕ, ◌≡◌, ◌*◌, ◌^◌, arith, refl, sym, ◌∙◌, ap, subst, true, List, length}
 use Rattle.std.specs.Prelude.{ℤ, pos, ◌-ℤ◌, ◌≤ℤ◌, int_le, Option, Some, None}
+use Rattle.std.specs.List.{All}
+use Rattle.std.specs.List.Sorted.{IsPermutation}
+use Rattle.std.proofs.lemmas.List.Elements.{All-weaker}
+use Rattle.std.proofs.lemmas.List.Sorted.{All-permutation}
 use Rattle.std.proofs.lemmas.Int.{ints}
 use mir.Syntax.{w64}
 use mir.Val.{to_z, of_z}
@@ -11,7 +15,7 @@ use Rattle.problem_core.specs.Choice.{IsLegal}
 use Rattle.problem_core.specs.Courses.{passing}
 use Rattle.meeting_patterns.specs.Made.{AreClashless}
 use Rattle.meeting_patterns.specs.Pattern.{patterns_of}
-use Rattle.duality.specs.Packing.{Weights, floor_weight, floor_number, meets_floor}
+use Rattle.duality.specs.Packing.{Packing, Weights, floor_weight, floor_number, meets_floor}
 use Rattle.duality.specs.Sums.{IsWithin}
 use Rattle.packing_model.specs.Built.{packing}
 use Rattle.packing_model.specs.Closing.{choice_of}
@@ -20,6 +24,11 @@ use Rattle.packing_model.specs.declared.fixing.Fixing.{Fixing}
 use Rattle.packing_model.proofs.NodeLemmas.{known_at}
 use Rattle.search_nodes.specs.Choices.{IsMore}
 use Rattle.search_nodes.proofs.ChoiceLaws.{value-passing, chosen_weighs}
+use Rattle.packing_model.specs.declared.point.Point.{Point}
+use Rattle.search_nodes.specs.Points.{IsPointOf}
+use Rattle.clique_cuts.specs.Search.{IsEntry}
+use Rattle.clique_cuts.specs.Cliques.{IsKnown}
+use Rattle.clique_cuts.proofs.SearchLaws.{entries_are}
 use Rattle.clique_cuts.specs.Better.{IsBetter, MeetsAll, ReachesFloor}
 
 le_true : (a b : ℤ) → a ≤ℤ b → int_le a b ≡ true
@@ -55,3 +64,7 @@ chosen_better p w level targets best a list legal is meets = record {
 
 pub clashless : (p : Facts) (f : Fixing) → IsValidFixing (packing p) f → AreClashless p (patterns_of p) f.one
 clashless p f is = record { known = λ j l. known_at (length (patterns_of p)) f.one j is.of_packing.one l; differ = is.differ; apart = is.apart }
+
+-- the entries of a point, in whatever order, are of patterns of the packing
+pub all_known : (k : Packing) (x : Point) (es : List (ℕ × ℤ)) → IsPointOf k x → IsPermutation x.entries es → All (IsKnown k) es
+all_known k x es is same = All-weaker (IsEntry k x) (IsKnown k) (λ e entry. entry.known) es (All-permutation (IsEntry k x) x.entries es same (entries_are k x is))

@@ -16,6 +16,7 @@ ghost use Rattle.clique_cuts.specs.Cliques.{IsKnown};
 ghost use Rattle.clique_cuts.specs.Better.{IsBetter, IsLevel, AreFew, HasTargets, ReachesFloor, MeetsAll, is_over};
 
 use crate::cuts::falling;
+use crate::slots::slot_choice;
 use duality::{Objective, Weighed, weigh};
 use meeting_patterns::{chosen, pattern_laws, to_choice};
 use packing_model::{Model, ObjectiveAt, Point, is_free};
@@ -28,7 +29,9 @@ use std::alloc::Global;
 /// how it is found, nor that it is found where there is one; what is found is tested. It fails only where
 /// memory runs out.
 ///
-/// The patterns of the point are taken by falling entry, each that clashes with none taken before.
+/// It is sought in two ways. The patterns of the point are taken by falling entry, each that clashes with none
+/// taken before. Then rooms are given slot by slot over the pairs of meeting and room that the point uses, so
+/// that each meeting and each room is covered in a slot that the point covers wholly there.
 pub fn rounded<O: Objective>(
     alloc: Global,
     at: &ObjectiveAt<O>,
@@ -42,7 +45,13 @@ pub fn rounded<O: Objective>(
 {
     let entries = falling(alloc, point)?;
     let choice = packed(alloc, at.model, &entries)?;
-    tested(alloc, at, choice)
+    match tested(alloc, at, choice)? {
+        Some(choice) => Ok(Some(choice)),
+        None => {
+            let choice = slot_choice(alloc, at.model, point.den, &entries)?;
+            tested(alloc, at, choice)
+        }
+    }
 }
 
 /// The choice of the entries' patterns in their order, each that clashes with none before.

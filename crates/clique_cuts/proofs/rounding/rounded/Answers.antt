@@ -1,17 +1,17 @@
 use Rattle.std.proofs.Common.{ℕ, List, sym, subst}
 use Rattle.std.specs.Prelude.{ℤ}
 use Rattle.std.specs.List.{All}
-use Rattle.std.proofs.lemmas.List.Elements.{All-weaker}
-use Rattle.std.proofs.lemmas.List.Sorted.{All-permutation}
 use Rattle.packing_model.specs.Built.{packing}
-use Rattle.clique_cuts.specs.Search.{IsEntry}
 use Rattle.clique_cuts.specs.Cliques.{IsKnown}
-use Rattle.clique_cuts.proofs.SearchLaws.{entries_are}
+use Rattle.clique_cuts.proofs.BetterLaws.{all_known}
 use Rattle.clique_cuts.proofs.rounding.rounded.Goals as goal
 
 pub packed-requires : goal.packed-requires
 packed-requires g c =
     let k = packing c.args.at.now.model.now in
-    let x = c.args.point.now in
-    let all = All-permutation (IsEntry k x) x.entries c.in_ok-entries.entries.items c.in_ok-entries.ensures (entries_are k x c.requires.point) in
-    subst (λ (es : List (ℕ × ℤ)). All (IsKnown k) es) (sym c.deref.ensures.value) (All-weaker (IsEntry k x) (IsKnown k) (λ e is. is.known) c.in_ok-entries.entries.items all)
+    subst (λ (es : List (ℕ × ℤ)). All (IsKnown k) es) (sym c.deref.ensures.value) (all_known k c.args.point.now c.in_ok-entries.entries.items c.requires.point c.in_ok-entries.ensures)
+
+pub slot_choice-requires : goal.slot_choice-requires
+slot_choice-requires g c =
+    let k = packing c.args.at.now.model.now in
+    subst (λ (es : List (ℕ × ℤ)). All (IsKnown k) es) (sym c.deref-in-None.ensures.value) (all_known k c.args.point.now c.in_ok-entries.entries.items c.requires.point c.in_ok-entries.ensures)
