@@ -3,3 +3,5 @@ pub mod Fixed
 pub mod Bounds
 pub mod Tasks
 pub mod Answers
+pub mod Terms
+pub mod Multipliers

@@ -3,11 +3,13 @@
 
 mod bound;
 mod closing;
+mod divisor;
 mod fixed;
 mod free;
 mod laws;
 mod point;
 mod task;
+mod terms;
 
 pub use bound::{Bounded, Hints, bound_at};
 pub use fixed::{close_fixed, close_fixed_at};
