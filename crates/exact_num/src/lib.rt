@@ -21,4 +21,5 @@ pub use fraction::Fraction;
 pub use fraction_64::Frac64;
 pub use fraction_128::Frac128;
 pub use law::laws;
+pub use parts::{common_divisor, quotient};
 pub use steps::Steps;

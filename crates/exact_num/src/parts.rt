@@ -70,7 +70,7 @@ fn gcd(a: u128, b: u128) -> u128
 
 /// The greatest common divisor, where the second number is positive.
 #[inline]
-pub(crate) fn common_divisor(a: i128, b: i128) -> i128
+pub fn common_divisor(a: i128, b: i128) -> i128
     requires { pos 0 <ℤ b }
     ensures gcd { IsGcd (unsigned_abs a) (unsigned_abs b) (unsigned_abs result) }
     ensures positive { pos 0 <ℤ result }
@@ -97,7 +97,7 @@ fn quotient_of_short(n: i64, k: i128) -> i128
 
 /// A division without remainder.
 #[inline]
-pub(crate) fn quotient(n: i128, k: i128) -> i128
+pub fn quotient(n: i128, k: i128) -> i128
     requires some { pos 0 <ℤ k }
     requires divides { unsigned_abs k ∣ unsigned_abs n }
     ensures { result *ℤ k ≡ n }

@@ -7,3 +7,7 @@ pub mod NameLaws
 pub mod RayLaws
 pub mod PrimalLaws
 pub mod WholeLaws
+pub mod DivisorLaws
+pub mod TermLaws
+pub mod OrderLaws
+pub mod LeafLaws

@@ -4,3 +4,5 @@ pub mod Bounds
 pub mod Tasks
 pub mod Answers
 pub mod Amounts
+pub mod Terms
+pub mod Multipliers

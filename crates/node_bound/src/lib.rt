@@ -4,12 +4,14 @@
 mod amounts;
 mod bound;
 mod closing;
+mod divisor;
 mod fixed;
 mod free;
 mod laws;
 mod point;
 mod task;
 mod whole;
+mod terms;
 
 pub use bound::{Bounded, Hints, bound_at};
 pub use fixed::{close_fixed, close_fixed_at};
