@@ -11,3 +11,4 @@ pub mod DivisorLaws
 pub mod TermLaws
 pub mod OrderLaws
 pub mod LeafLaws
+pub mod SolveLaws

@@ -16,8 +16,8 @@ use Rattle.packing_model.specs.Closing.{HasTargets}
 use Rattle.search_nodes.specs.Points.{IsGapPoint}
 use Rattle.search_nodes.specs.Leaves.{IsFineLeaf}
 use Rattle.search_nodes.specs.Choices.{IsHeld, IsMore, weighs}
-use Rattle.node_bound.specs.declared.bound.Bounded.{Bounded}
-use Rattle.node_bound.specs.declared.bound.Bounded.TheVariants.{Closed, Better, Gap, Wide, Stalled}
+use Rattle.node_bound.specs.declared.bounded.Bounded.{Bounded}
+use Rattle.node_bound.specs.declared.bounded.Bounded.TheVariants.{Closed, Better, Gap, Wide, Stalled}
 
 abbrev pub has_free : Packing → Fixing → Bool
 has_free k f = any_below (is_free k f) k.count

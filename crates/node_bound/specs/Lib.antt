@@ -6,3 +6,4 @@ pub mod Answers
 pub mod Amounts
 pub mod Terms
 pub mod Multipliers
+pub mod Exact

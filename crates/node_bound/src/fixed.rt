@@ -9,10 +9,10 @@ ghost use Rattle.packing_model.specs.Nodes.{IsValidFixing, AreTargets, fixed_of,
 ghost use Rattle.meeting_patterns.specs.Pattern.{patterns_of};
 ghost use Rattle.packing_model.specs.Built.{measured};
 ghost use Rattle.node_bound.specs.Bounds.{Decides, IsBetterChoice, has_free};
-ghost use Rattle.node_bound.specs.declared.bound.Bounded.TheVariants as bounds;
+ghost use Rattle.node_bound.specs.declared.bounded.Bounded.TheVariants as bounds;
 ghost use Rattle.node_bound.specs.Fixed.{is_at_most, IsNode, IsMiss, MeetsAll, ReachesFloor};
 
-use crate::bound::Bounded;
+use crate::bounded::Bounded;
 use duality::{FLOOR_LEVEL, Leaf, Objective, RowName, Term, Weighed, weigh};
 use meeting_patterns::{pattern_laws, to_choice};
 use packing_model::{At, Measured, ObjectiveAt};

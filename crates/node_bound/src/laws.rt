@@ -2,7 +2,7 @@ ghost use Rattle.std.specs.Prelude.{ℕ};
 ghost use Rattle.problem_core.specs.Facts.{Facts};
 ghost use Rattle.duality.specs.Packing.{Weights, Stage, Fixing};
 ghost use Rattle.node_bound.specs.Bounds.{Decides, Bounds};
-ghost use Rattle.node_bound.specs.declared.bound.Bounded.{Bounded};
+ghost use Rattle.node_bound.specs.declared.bounded.Bounded.{Bounded};
 
 /// What decides a node bounds it, whatever was counted.
 pub fn bound_laws()

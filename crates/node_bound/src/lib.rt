@@ -1,19 +1,21 @@
-//! What is known at a node of a search where no pattern is free: a leaf that closes there, or a better choice.
+//! What is known at a node of a search: a leaf that closes there, a better choice, or a point that meets its
+//! rows though it makes no choice.
 #![tactic(auto)]
 
 mod amounts;
-mod bound;
+mod bounded;
 mod closing;
 mod divisor;
 mod fixed;
 mod free;
 mod laws;
 mod point;
+mod solve;
 mod task;
-mod whole;
 mod terms;
+mod whole;
 
-pub use bound::{Bounded, Hints, bound_at};
+pub use bounded::{Bounded, Hints, bound, bound_at};
 pub use fixed::{close_fixed, close_fixed_at};
 pub use free::lowest_free;
 pub use laws::bound_laws;
