@@ -48,14 +48,14 @@ reaches None list weight e h = tt
 reaches (Some x) list weight e h = omega (arith, ints, total-neg x.0 list, e)
 
 -- what the choice chooses is better, so it is
-pub chosen_better : (p : Facts) (w : Weights) (level : ℕ) (targets : List ℤ) (best : Option ℤ) (a list : List ℕ) → IsLegal p a → list ≡ passing (choice_of p a) (packing p).count → MeetsAll w level targets best list → IsBetter p w level targets best a
+pub chosen_better : (p : Facts) (w : Weights) (level : ℕ) (targets : List ℤ) (best : Option ℤ) (a list : List ℕ) → IsLegal p a → list ≡ passing (choice_of p a) (packing p).count → MeetsAll w level targets list × IsMore best (total (w.weight level) list) → IsBetter p w level targets best a
 chosen_better p w level targets best a list legal is meets = record {
   held = record {
     legal = legal;
-    targets_met = λ j low high. sym (chosen_weighs p w j a list is) ∙ meets.has_targets j low high;
-    floor = go w.floor meets.floor;
+    targets_met = λ j low high. sym (chosen_weighs p w j a list is) ∙ meets.0.has_targets j low high;
+    floor = go w.floor meets.0.floor;
   };
-  more = subst (IsMore best) (chosen_weighs p w level a list is) meets.more;
+  more = subst (IsMore best) (chosen_weighs p w level a list is) meets.1;
 }
   where
     go : (floor : Option ((ℕ → ℤ) × ℤ)) → ReachesFloor floor list → meets_floor (packing p) (choice_of p a) floor ≡ true

@@ -36,7 +36,7 @@ abbrev pub is_over : ℤ → Option ℤ → Bool
 is_over x None = true
 is_over x (Some v) = int_lt v x
 
-pub record MeetsAll (w : Weights) (level : ℕ) (targets : List ℤ) (best : Option ℤ) (list : List ℕ) : Type 0 where
+-- they have the targets of the levels below, and reach the floor
+pub record MeetsAll (w : Weights) (level : ℕ) (targets : List ℤ) (list : List ℕ) : Type 0 where
   pub has_targets : HasTargets w.weight level targets list
   pub floor : ReachesFloor w.floor list
-  pub more : IsMore best (total (w.weight level) list)

@@ -117,7 +117,7 @@ fn tested<O: Objective>(
 fn is_better<O: Objective>(at: &ObjectiveAt<O>, list: &[u32]) -> bool
     requires level { IsLevel (O.levels at.now.objective.now) at.now.level at.now.targets.now }
     requires list { AreFew (O.count at.now.objective.now) list.now }
-    ensures { result ≡ true → MeetsAll (counted (O.weight at.now.objective.now) (O.floor at.now.objective.now)) at.now.level at.now.targets.now at.now.best list.now }
+    ensures { result ≡ true → MeetsAll (counted (O.weight at.now.objective.now) (O.floor at.now.objective.now)) at.now.level at.now.targets.now list.now × IsMore at.now.best (total (O.weight at.now.objective.now at.now.level) list.now) }
 {
     has_targets(at, list) && reaches_floor(at, list) && is_more(at, list)
 }

@@ -32,7 +32,8 @@ use Rattle.search_nodes.specs.Leaves.{IsFineLeaf}
 use Rattle.search_nodes.specs.Choices.{IsHeld, IsMore, weighs}
 use Rattle.node_bound.specs.Bounds.{has_free}
 use Rattle.node_bound.specs.Duals.{side_left, IsShort}
-use Rattle.node_bound.specs.Fixed.{IsMiss, ReachesFloor, MeetsAll, is_at_most}
+use Rattle.clique_cuts.specs.Better.{MeetsAll, ReachesFloor}
+use Rattle.node_bound.specs.Fixed.{IsMiss, is_at_most}
 use Rattle.node_bound.proofs.DualLaws.{dual_closes}
 
 le_true : (a b : ℤ) → a ≤ℤ b → int_le a b ≡ true
@@ -113,10 +114,10 @@ made_weighs p one a f d b back =
     ∙ value-member f one (packing p).count d b
 
 pub made_held : (p : Facts) (w : Weights) (s : Stage) (one a : List ℕ) → distinct one ≡ true → list_all (λ q. nat_lt q (packing p).count) one ≡ true → ((i : ℕ) → i < (packing p).count → choice_of p a i ≡ member i one)
-    → IsLegal p a → MeetsAll w s one → IsHeld p w s.level s.targets a
+    → IsLegal p a → MeetsAll w s.level s.targets one → IsHeld p w s.level s.targets a
 made_held p w s one a d b back legal meets = record {
   legal = legal;
-  targets_met = λ j low high. made_weighs p one a (w.weight j) d b back ∙ meets.targets j low high;
+  targets_met = λ j low high. made_weighs p one a (w.weight j) d b back ∙ meets.has_targets j low high;
   floor = go w.floor meets.floor;
 }
   where

@@ -26,7 +26,8 @@ use Rattle.search_nodes.specs.Choices.{IsHeld, IsMore, weighs}
 use Rattle.search_nodes.specs.SharedRows.{share_row}
 use Rattle.search_nodes.specs.Points.{IsPointOf, IsAbove, ReachesFloor as AtFloor, entry_of, sum_at}
 use Rattle.node_bound.specs.Answers.{IsNodePoint}
-use Rattle.node_bound.specs.Fixed.{MeetsAll, ReachesFloor, is_at_most}
+use Rattle.clique_cuts.specs.Better.{MeetsAll, ReachesFloor}
+use Rattle.node_bound.specs.Fixed.{is_at_most}
 use Rattle.node_bound.proofs.AmountLaws.{below_at, differ_at}
 use Rattle.node_bound.proofs.FixedLaws.{made_held, made_more}
 use Rattle.node_bound.proofs.RayLaws.{as_number-low}
@@ -143,9 +144,9 @@ whole_apart p x is whole base shared =
       ];
     }
 
-pub whole_meets : (k : Packing) (w : Weights) (s : Stage) (f : Fixing) (x : Point) → IsNodePoint k w s f x → IsWhole x → MeetsAll w s (numbers x.entries)
+pub whole_meets : (k : Packing) (w : Weights) (s : Stage) (f : Fixing) (x : Point) → IsNodePoint k w s f x → IsWhole x → MeetsAll w s.level s.targets (numbers x.entries)
 whole_meets k w s f x is whole = record {
-  targets = λ j low high. cancelled x.den (total (w.weight j) (numbers x.entries)) (target_of s.targets j) is.point.positive (sym (whole_sum k x is.point whole (w.weight j)) ∙ is.targets j low high);
+  has_targets = λ j low high. cancelled x.den (total (w.weight j) (numbers x.entries)) (target_of s.targets j) is.point.positive (sym (whole_sum k x is.point whole (w.weight j)) ∙ is.targets j low high);
   floor = go w.floor is.floor;
 }
   where

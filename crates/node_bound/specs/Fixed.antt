@@ -17,15 +17,6 @@ pub record IsMiss (k : Packing) (w : Weights) (s : Stage) (f : Fixing) (t : Term
   pub one : (t.times ≡ pos 1) ⊎ (t.times ≡ negsuc 0)
   pub short : (t.times *ℤ side_left k w s f t.row) <ℤ pos 0
 
-abbrev pub ReachesFloor : Option ((ℕ → ℤ) × ℤ) → List ℕ → Type 0
-ReachesFloor None one = Unit {0}
-ReachesFloor (Some floor) one = floor.1 ≤ℤ total floor.0 one
-
--- they have the targets and reach the floor
-pub record MeetsAll (w : Weights) (s : Stage) (one : List ℕ) : Type 0 where
-  pub targets : (j : ℕ) → 1 ≤ j → j < s.level → total (w.weight j) one ≡ target_of s.targets j
-  pub floor : ReachesFloor w.floor one
-
 -- a node at a level of an objective over the patterns, with few of them taken
 pub record IsNode (p : Facts) (count levels level : ℕ) (targets : List ℤ) (f : Fixed) : Type 0 where
   pub counted : count ≡ length (patterns_of p)

@@ -10,7 +10,8 @@ ghost use Rattle.meeting_patterns.specs.Pattern.{patterns_of};
 ghost use Rattle.packing_model.specs.Built.{measured};
 ghost use Rattle.node_bound.specs.Bounds.{Decides, IsBetterChoice, has_free};
 ghost use Rattle.node_bound.specs.declared.bounded.Bounded.TheVariants as bounds;
-ghost use Rattle.node_bound.specs.Fixed.{is_at_most, IsNode, IsMiss, MeetsAll, ReachesFloor};
+ghost use Rattle.clique_cuts.specs.Better.{MeetsAll, ReachesFloor};
+ghost use Rattle.node_bound.specs.Fixed.{is_at_most, IsNode, IsMiss};
 
 use crate::bounded::Bounded;
 use duality::{FLOOR_LEVEL, Leaf, Objective, RowName, Term, Weighed, weigh};
@@ -70,7 +71,7 @@ pub fn close_fixed_at<O: Objective>(alloc: Global, at: &ObjectiveAt<O>) -> Resul
 /// The first row that the patterns which are taken miss.
 fn missed<O: Objective>(at: &ObjectiveAt<O>) -> Option<Term>
     requires node { IsNode at.now.model.now (O.count at.now.objective.now) (O.levels at.now.objective.now) at.now.level at.now.targets.now at.now.fixing.now }
-    ensures { MatchOption result (MeetsAll (counted (O.weight at.now.objective.now) (O.floor at.now.objective.now)) (stage_at at.now.level at.now.targets.now at.now.best at.now.pool.now) at.now.fixing.now.one)
+    ensures { MatchOption result (MeetsAll (counted (O.weight at.now.objective.now) (O.floor at.now.objective.now)) at.now.level at.now.targets.now at.now.fixing.now.one)
         (IsMiss (packing at.now.model.now) (counted (O.weight at.now.objective.now) (O.floor at.now.objective.now)) (stage_at at.now.level at.now.targets.now at.now.best at.now.pool.now) (fixed_of at.now.fixing.now)) }
 {
     for level in 1..at.level {
@@ -164,7 +165,7 @@ fn one_term(alloc: Global, term: Term) -> Result<Bounded, Memory>
 fn at_value<O: Objective>(alloc: Global, at: &ObjectiveAt<O>) -> Result<Bounded, Memory>
     requires node { IsNode at.now.model.now (O.count at.now.objective.now) (O.levels at.now.objective.now) at.now.level at.now.targets.now at.now.fixing.now }
     requires none { has_free (packing at.now.model.now) (fixed_of at.now.fixing.now) ≡ false }
-    requires meets { MeetsAll (counted (O.weight at.now.objective.now) (O.floor at.now.objective.now)) (stage_at at.now.level at.now.targets.now at.now.best at.now.pool.now) at.now.fixing.now.one }
+    requires meets { MeetsAll (counted (O.weight at.now.objective.now) (O.floor at.now.objective.now)) at.now.level at.now.targets.now at.now.fixing.now.one }
     ensures { IfOk result (Decides at.now.model.now (counted (O.weight at.now.objective.now) (O.floor at.now.objective.now)) (stage_at at.now.level at.now.targets.now at.now.best at.now.pool.now) (fixed_of at.now.fixing.now)) }
 {
     let one = at.fixing.one.as_slice();

@@ -26,7 +26,7 @@ struct Rounding {
 /// Points of the two courses with three rooms each. The patterns 2 and 4 are the first room for two meetings
 /// of the first course and the second room for the third, and so are 11 and 13 for the second course; the
 /// measures of these rooms are 6, 60, 3000, 0, -4, 0.
-fn roundings() -> [Rounding; 5] {
+fn roundings() -> [Rounding; 7] {
     let whole = Rounding {
         point: Case {
             den: 1,
@@ -55,15 +55,29 @@ fn roundings() -> [Rounding; 5] {
             rooms: &[],
             ..whole
         },
-        // two meetings of each course have a room, and two none
+        // by falling entry two meetings of each course have a room, and one none
         Rounding {
             point: halves,
             targets: &[],
             best: 3,
             rooms: &[1, 1, 0, 4, 4, 0],
         },
+        // slot by slot each meeting has a room: two in that of its course's largest pattern, the third in another
         Rounding {
             point: halves,
+            ..whole
+        },
+        Rounding {
+            point: Case {
+                den: 2,
+                entries: &[(2, 1), (5, 1), (8, 1), (11, 1), (14, 1), (17, 1)],
+                broken: &[],
+            },
+            ..whole
+        },
+        Rounding {
+            point: halves,
+            best: -4,
             rooms: &[],
             ..whole
         },
