@@ -1,3 +1,10 @@
 pub mod DualLaws
 pub mod FixedLaws
 pub mod BoundLaws
+pub mod PlaceLaws
+pub mod TakenLaws
+pub mod FreeLaws
+pub mod EntryLaws
+pub mod ColumnLaws
+pub mod TaskLaws
+pub mod SideLaws

@@ -3,10 +3,15 @@
 
 mod bound;
 mod closing;
+mod columns;
+mod entries;
 mod fixed;
 mod free;
 mod laws;
+mod places;
 mod point;
+mod standing;
+mod taken;
 mod task;
 
 pub use bound::{Bounded, Hints, bound_at};
