@@ -12,3 +12,10 @@ pub mod TermLaws
 pub mod OrderLaws
 pub mod LeafLaws
 pub mod SolveLaws
+pub mod PlaceLaws
+pub mod TakenLaws
+pub mod FreeLaws
+pub mod EntryLaws
+pub mod ColumnLaws
+pub mod TaskLaws
+pub mod SideLaws

@@ -1,11 +1,11 @@
 -- What the answers of a node's linear program say at the node.
 use Rattle.std.specs.Prelude.{ℕ, ℤ, pos, ◌≡◌, ◌<◌, ◌≤◌, ◌≤ℤ◌, ◌<ℤ◌, ◌+ℤ◌, ◌*ℤ◌, true, false, Option, Some, None, List, ◌∷◌, length}
-use Rattle.numbers.specs.Sums.{member, total}
+use Rattle.numbers.specs.Sums.{member}
 use Rattle.duality.specs.Packing.{Packing, Weights, Stage, Fixing, as_number, cut_at, target_of, is_free}
 use Rattle.packing_model.specs.declared.point.Point.{Point}
 use Rattle.search_nodes.specs.Points.{IsPointOf, ReachesFloor, entry_of, sum_at}
 use Rattle.exact_simplex.specs.declared.task.Lp.{Lp}
-use Rattle.exact_simplex.specs.Task.{AreSmall, Meets, IsMultiplier, int_at, row_at, row_sum, column_sum, side_sum}
+use Rattle.exact_simplex.specs.Task.{AreSmall, Meets, IsMultiplier, int_at, row_at, row_sum, column_sum}
 
 -- ---- answers of the linear program
 

@@ -7,3 +7,6 @@ pub mod Amounts
 pub mod Terms
 pub mod Multipliers
 pub mod Exact
+pub mod Places
+pub mod Taken
+pub mod Entries

@@ -1,9 +1,8 @@
 -- The linear program of a node: a column a free pattern, a row a base row, cut, level row and floor.
-use Rattle.std.specs.Prelude.{ℕ, suc, zero, ℤ, ◌≡◌, ◌<◌, ◌≤◌, ◌+◌, ◌-◌, ◌&&◌, ◌==◌, nat_lt, if◌then◌else◌, Bool, true, Option, Some, None, List, [], ◌∷◌, ◌++◌, map, length, slice_index_or}
+use Rattle.std.specs.Prelude.{ℕ, suc, zero, ℤ, ◌≡◌, ◌<◌, ◌≤◌, ◌+◌, ◌-◌, ◌&&◌, ◌==◌, nat_lt, if◌then◌else◌, true, Option, Some, None, List, [], ◌∷◌, ◌++◌, map, length, slice_index_or}
 use Rattle.numbers.specs.Sums.{member, distinct}
 use Rattle.duality.specs.declared.row.RowName.{RowName}
 use Rattle.duality.specs.declared.row.RowName.TheVariants.{Base, Cut, Level}
-use Rattle.duality.specs.declared.row.Term.{Term}
 use Rattle.duality.specs.Packing.{Packing, Weights, Stage, Fixing, coefficient, is_free, floor_level}
 use Rattle.duality.specs.Units.{free_count}
 use Rattle.exact_simplex.specs.declared.task.RowKind.{RowKind}
