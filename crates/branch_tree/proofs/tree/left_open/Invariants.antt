@@ -1,0 +1,12 @@
+use Rattle.std.proofs.Common.{◌≡◌, ◌++◌, suc, drop, length}
+use Rattle.duality.specs.Walk.{pending_of}
+use Rattle.duality.specs.After.{open_ends}
+use Rattle.search_nodes.specs.Paths.{path_of}
+use Rattle.branch_tree.specs.Trees.{outside_count}
+use Rattle.branch_tree.proofs.tree.left_open.Given as goal
+
+abbrev pub invariant-loop-side : goal.invariant-loop-side
+invariant-loop-side l = record {
+  ends : l.nodes ++ open_ends (outside_count (drop l.side-index l.side-items)) ≡ l.fn.growth.nodes ++ open_ends (suc (outside_count l.side-items));
+  held : l.held ≡ l.fn.growth.held;
+}

@@ -1,0 +1,9 @@
+pub mod Turns
+pub mod Growths
+pub mod Fractions
+pub mod Pools
+pub mod Kept
+pub mod Logs
+pub mod Logging
+pub mod Trees
+pub mod Measured
