@@ -7,3 +7,5 @@ pub mod TakeLaws
 pub mod WriteLaws
 pub mod CountLaws
 pub mod TreeLaws
+pub mod LineLemmas
+pub mod ShareLaws
