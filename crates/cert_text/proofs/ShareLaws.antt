@@ -1,6 +1,6 @@
 -- Leaves written once, and each leaf where it stands, are two forms of one certificate.
-use Rattle.std.proofs.Common.{ℕ, ◌≡◌, ◌<◌, ◌≤◌, ◌+◌, ◌-◌, arith, refl, sym, ◌∙◌, ap, subst, zero, suc, Bool, true, false, cond, not, ◌&&◌, ◌||◌, List, [], ◌∷◌, ◌++◌, append_assoc, append-nil, map, length, length-append, inl, inr, get_or}
-use Rattle.std.specs.Prelude.{◌==◌, ◌⊎◌, nat_lt, nat_le, Option, Some, None, is_some, option_map, position, slice_get, bytes_eq}
+use Rattle.std.proofs.Common.{ℕ, ◌≡◌, ◌<◌, ◌≤◌, ◌+◌, arith, refl, sym, ◌∙◌, ap, subst, zero, suc, Bool, true, false, cond, not, ◌&&◌, ◌||◌, List, [], ◌∷◌, ◌++◌, append_assoc, map, length, length-append, inl, inr, get_or}
+use Rattle.std.specs.Prelude.{◌⊎◌, nat_lt, nat_le, Option, Some, None, option_map, position, slice_get, bytes_eq}
 use Rattle.std.specs.List.{list_all, list_any, prefix_len}
 use Rattle.std.proofs.lemmas.Bool.{and_parts, and_from, true≢false, cases_Bool, lt-ltb, ltb-true, leb-true, le-leb, cases_eq}
 use Rattle.std.proofs.lemmas.Option.{same_Some, none-some, cond_some, slice_get-map, slice_get-get_or}
@@ -13,16 +13,16 @@ use Rattle.duality.specs.declared.leaf.Node.TheVariants.{Branch, Leaf as Closing
 use Rattle.cert_text.specs.declared.lines.Tree.{Tree}
 use Rattle.cert_text.specs.declared.lines.Certificate.{Certificate}
 use Rattle.cert_text.specs.declared.lines.CertLine.{CertLine}
-use Rattle.cert_text.specs.declared.lines.CertLine.TheVariants.{Head, Sizes, Choice, Values, Cuts, Cut, Level, Unfinished, Node, End}
+use Rattle.cert_text.specs.declared.lines.CertLine.TheVariants.{Sizes, Choice, Values, Cuts, Cut, Node, End}
 use Rattle.cert_text.specs.declared.named.Named.{Named}
-use Rattle.cert_text.specs.Spelling.{in_bounds, is_version, line_of, line_text, leaf_in_bounds}
+use Rattle.cert_text.specs.Spelling.{in_bounds, is_version, line_of, leaf_in_bounds}
 use Rattle.cert_text.specs.Grammar.{lines_of, blocks, open_block, fills, is_closed_tree, is_open_tree, fits_count, is_shaped, is_writable}
 use Rattle.duality.specs.After.{is_open}
-use Rattle.cert_text.specs.Sharing.{leaf_text, has_line, place_of_line, with_line, none_named, leaf_named, names, named, names_then, all_named, shared_leaf, shared_node, lines_with, lines_after, shared_nodes, tree_with, lines_behind, shared_trees, shared_last, last_lines, kept_lines, share, plain_same, plain_node, leaves_with, leaves_after, plain_nodes, leaves_behind, plain_trees, plain_last, plain}
+use Rattle.cert_text.specs.Sharing.{leaf_text, has_line, place_of_line, with_line, none_named, names, named, names_then, all_named, shared_leaf, lines_after, shared_nodes, tree_with, lines_behind, shared_trees, shared_last, last_lines, kept_lines, share, plain_same, plain_node, leaves_with, leaves_after, plain_nodes, leaves_behind, plain_trees, plain_last, plain}
 use Rattle.cert_text.proofs.NumberLaws.{bytes_are}
 use Rattle.cert_text.proofs.SpellingLaws.{line_of-reads}
 use Rattle.cert_text.proofs.GrammarLaws.{all_named-append}
-use Rattle.cert_text.proofs.TextLaws.{IsWritable, writable_is, writable_from}
+use Rattle.cert_text.proofs.TextLaws.{writable_is, writable_from}
 
 -- ---- lines and their places
 

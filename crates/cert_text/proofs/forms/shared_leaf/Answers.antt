@@ -1,5 +1,4 @@
-use Rattle.std.proofs.Common.{◌≡◌, ◌∙◌, ap}
-use Rattle.std.specs.Prelude.{Some}
+use Rattle.std.proofs.Common.{◌∙◌, ap}
 use Rattle.cert_text.specs.Sharing.{leaf_text, place_of_line}
 use Rattle.cert_text.proofs.ShareLaws.{there_already}
 use Rattle.cert_text.proofs.forms.shared_leaf.Goals as goal

@@ -1,4 +1,4 @@
-use Rattle.std.proofs.Common.{arith, length}
+use Rattle.std.proofs.Common.{arith}
 use Rattle.cert_text.specs.Reading.{standing_of}
 use Rattle.cert_text.specs.Text.{whole_lines, rest_of}
 use Rattle.cert_text.proofs.TakeLaws.{stops_here, goes_on, ends_ok, ends_err}
