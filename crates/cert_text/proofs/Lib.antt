@@ -9,3 +9,4 @@ pub mod CountLaws
 pub mod TreeLaws
 pub mod LineLemmas
 pub mod ShareLaws
+pub mod PlainLaws

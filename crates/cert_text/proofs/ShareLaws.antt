@@ -79,7 +79,7 @@ leaf_or d l = d
 leaf_is : (a b : Leaf) → leaf_in_bounds a ≡ true → leaf_in_bounds b ≡ true → leaf_text a ≡ leaf_text b → a ≡ b
 leaf_is a b ha hb e = ap (leaf_or a) (sym (line_of-reads (Node (Closing a)) ha) ∙ ap line_of e ∙ line_of-reads (Node (Closing b)) hb)
 
-at_bounds : (ls : List Leaf) (q : ℕ) (leaf : Leaf) → list_all leaf_in_bounds ls ≡ true → slice_get ls q ≡ Some leaf → leaf_in_bounds leaf ≡ true
+pub at_bounds : (ls : List Leaf) (q : ℕ) (leaf : Leaf) → list_all leaf_in_bounds ls ≡ true → slice_get ls q ≡ Some leaf → leaf_in_bounds leaf ≡ true
 at_bounds [] q leaf h e = absurd (none-some leaf e)
 at_bounds (l ∷ ls) zero leaf h e = ap leaf_in_bounds (sym (same_Some l leaf e)) ∙ (and_parts (leaf_in_bounds l) (list_all leaf_in_bounds ls) h).0
 at_bounds (l ∷ ls) (suc q) leaf h e = at_bounds ls q leaf (and_parts (leaf_in_bounds l) (list_all leaf_in_bounds ls) h).1 e
@@ -102,14 +102,14 @@ texts_more ls leaf lines e = ap (λ xs. xs ++ (leaf_text leaf ∷ [])) e ∙ sym
 
 -- ---- the names of a certificate
 
-abbrev nodes_named : Named → List SearchNode → Option Named
+abbrev pub nodes_named : Named → List SearchNode → Option Named
 nodes_named k ns = all_named k (map Node ns)
 
-abbrev trees_named : Named → List Tree → Option Named
+abbrev pub trees_named : Named → List Tree → Option Named
 trees_named k [] = Some k
 trees_named k (t ∷ ts) = names_then (nodes_named k t.nodes) (λ next. trees_named next ts)
 
-abbrev last_named : Named → Option Tree → Option Named
+abbrev pub last_named : Named → Option Tree → Option Named
 last_named k None = Some k
 last_named k (Some t) = nodes_named k t.nodes
 
@@ -148,19 +148,19 @@ names_are c =
     ∙ blocks_name c.levels 0 (none_named c.version) (open_block (length c.levels) c.unfinished ++ (End (length c.levels) ∷ []))
     ∙ then_same (trees_named (none_named c.version) c.levels) _ _ (λ m. last_name c.unfinished (length c.levels) m)
 
-then_is : (o : Option Named) (f : Named → Option Named) (t : Named) → names_then o f ≡ Some t → (u : Named) × (o ≡ Some u) × (f u ≡ Some t)
+pub then_is : (o : Option Named) (f : Named → Option Named) (t : Named) → names_then o f ≡ Some t → (u : Named) × (o ≡ Some u) × (f u ≡ Some t)
 then_is None f t h = absurd (none-some t h)
 then_is (Some u) f t h = (u, refl, h)
 
 -- ---- the bounds of a certificate's nodes
 
-abbrev nodes_bounded : List SearchNode → Bool
+abbrev pub nodes_bounded : List SearchNode → Bool
 nodes_bounded ns = list_all in_bounds (map Node ns)
 
-abbrev trees_bounded : List Tree → Bool
+abbrev pub trees_bounded : List Tree → Bool
 trees_bounded ts = list_all (λ t. nodes_bounded t.nodes) ts
 
-abbrev last_bounded : Option Tree → Bool
+abbrev pub last_bounded : Option Tree → Bool
 last_bounded None = true
 last_bounded (Some t) = nodes_bounded t.nodes
 
@@ -174,7 +174,7 @@ blocks_same (t ∷ ts) (u ∷ us) n l b h =
     and_from (nat_le (n + 1) 6) (list_all in_bounds (map Node u.nodes ++ blocks (n + 1) us)) line.0
     (list_all-append in_bounds (map Node u.nodes) (blocks (n + 1) us) ∙ and_from (nodes_bounded u.nodes) (list_all in_bounds (blocks (n + 1) us)) parts.0 (blocks_same ts us (n + 1) (omega arith) parts.1 rest.1))
 
-blocks_bounded : (ts : List Tree) (n : ℕ) → list_all in_bounds (blocks n ts) ≡ true → trees_bounded ts ≡ true
+pub blocks_bounded : (ts : List Tree) (n : ℕ) → list_all in_bounds (blocks n ts) ≡ true → trees_bounded ts ≡ true
 blocks_bounded [] n h = refl
 blocks_bounded (t ∷ ts) n h =
     let line = and_parts (nat_le (n + 1) 6) (list_all in_bounds (map Node t.nodes ++ blocks (n + 1) ts)) h in
@@ -182,7 +182,7 @@ blocks_bounded (t ∷ ts) n h =
     and_from (nodes_bounded t.nodes) (trees_bounded ts) rest.0 (blocks_bounded ts (n + 1) rest.1)
 
 -- an unfinished tree has the same bounds around it
-abbrev SameLast : Option Tree → Option Tree → Type 0
+abbrev pub SameLast : Option Tree → Option Tree → Type 0
 SameLast None None = Unit {0}
 SameLast None (Some u) = ⊥
 SameLast (Some t) None = ⊥
@@ -195,11 +195,11 @@ open_same (Some t) None n same b h = absurd same
 open_same (Some t) (Some u) n same b h =
     and_from (nat_le (n + 1) 6) (nodes_bounded u.nodes) (and_parts (nat_le (n + 1) 6) (nodes_bounded t.nodes) h).0 b
 
-open_bounded : (o : Option Tree) (n : ℕ) → list_all in_bounds (open_block n o) ≡ true → last_bounded o ≡ true
+pub open_bounded : (o : Option Tree) (n : ℕ) → list_all in_bounds (open_block n o) ≡ true → last_bounded o ≡ true
 open_bounded None n h = refl
 open_bounded (Some t) n h = (and_parts (nat_le (n + 1) 6) (nodes_bounded t.nodes) h).1
 
-record Bounds (c : Certificate) : Type 0 where
+pub record Bounds (c : Certificate) : Type 0 where
   pub version : is_version c.version ≡ true
   pub opening : list_all in_bounds (Sizes c.patterns c.rows ∷ (Choice c.choice ∷ (Values c.values ∷ (Cuts (length c.cuts) ∷ [])))) ≡ true
   pub cuts : list_all in_bounds (map Cut c.cuts) ≡ true
@@ -216,7 +216,7 @@ append_all xs ys h k = list_all-append in_bounds xs ys ∙ and_from (list_all in
 abbrev first_lines : Certificate → List CertLine
 first_lines c = Sizes c.patterns c.rows ∷ (Choice c.choice ∷ (Values c.values ∷ (Cuts (length c.cuts) ∷ [])))
 
-bounds_are : (c : Certificate) → list_all in_bounds (lines_of c) ≡ true → Bounds c
+pub bounds_are : (c : Certificate) → list_all in_bounds (lines_of c) ≡ true → Bounds c
 bounds_are c h =
     let tail = open_block (length c.levels) c.unfinished ++ (End (length c.levels) ∷ []) in
     let head = and_parts (is_version c.version) (list_all in_bounds (first_lines c ++ (map Cut c.cuts ++ (blocks 0 c.levels ++ tail)))) h in
@@ -277,7 +277,7 @@ plain_closed (t ∷ ts) ls =
     ∙ ap (λ b. (fills 0 t.nodes && not b) && list_all is_closed_tree (plain_trees (leaves_after ls t.nodes) ts)) (plain_open t.nodes ls)
     ∙ ap (λ b. is_closed_tree t && b) (plain_closed ts (leaves_after ls t.nodes))
 
-plain_count : (ts : List Tree) (ls : List Leaf) → length (plain_trees ls ts) ≡ length ts
+pub plain_count : (ts : List Tree) (ls : List Leaf) → length (plain_trees ls ts) ≡ length ts
 plain_count [] ls = refl
 plain_count (t ∷ ts) ls = omega (arith, plain_count ts (leaves_after ls t.nodes))
 
@@ -295,7 +295,7 @@ last_fits None (Some u) n same = absurd same
 last_fits (Some t) None n same = absurd same
 last_fits (Some t) (Some u) n same = refl
 
-plain_shaped : (c : Certificate) → is_shaped c ≡ true → is_shaped (plain c) ≡ true
+pub plain_shaped : (c : Certificate) → is_shaped c ≡ true → is_shaped (plain c) ≡ true
 plain_shaped c h =
     let ls = leaves_behind [] c.levels in
     let same = plain_last_same c.unfinished ls in
@@ -367,23 +367,23 @@ share_shaped c h =
 
 -- ---- version 1: no node names a leaf
 
-abbrev is_name : SearchNode → Bool
+abbrev pub is_name : SearchNode → Bool
 is_name (Branch p) = false
 is_name (Closing leaf) = false
 is_name OpenEnd = false
 is_name (Same q) = true
 
-abbrev no_names : List SearchNode → Bool
+abbrev pub no_names : List SearchNode → Bool
 no_names ns = list_all (λ n. not (is_name n)) ns
 
-abbrev none_in : List Tree → Bool
+abbrev pub none_in : List Tree → Bool
 none_in ts = list_all (λ t. no_names t.nodes) ts
 
-abbrev none_last : Option Tree → Bool
+abbrev pub none_last : Option Tree → Bool
 none_last None = true
 none_last (Some t) = no_names t.nodes
 
-abbrev named_two : List (List ℕ) → Named
+abbrev pub named_two : List (List ℕ) → Named
 named_two ks = record { version = 2; lines = ks }
 
 one_nodes : (ns : List SearchNode) (m : Named) → nodes_named (none_named 1) ns ≡ Some m → (no_names ns ≡ true) × (m ≡ none_named 1)
@@ -421,13 +421,13 @@ plain_same_nodes (Closing leaf ∷ ns) ls h = ap (λ x. Closing leaf ∷ x) (pla
 plain_same_nodes (OpenEnd ∷ ns) ls h = ap (λ x. OpenEnd ∷ x) (plain_same_nodes ns ls h)
 plain_same_nodes (Same q ∷ ns) ls h = absurd (true≢false (sym h))
 
-plain_same_trees : (ts : List Tree) (ls : List Leaf) → none_in ts ≡ true → plain_trees ls ts ≡ ts
+pub plain_same_trees : (ts : List Tree) (ls : List Leaf) → none_in ts ≡ true → plain_trees ls ts ≡ ts
 plain_same_trees [] ls h = refl
 plain_same_trees (t ∷ ts) ls h =
     let parts = and_parts (no_names t.nodes) (none_in ts) h in
     ap (λ ns. tree_with ns ∷ plain_trees (leaves_after ls t.nodes) ts) (plain_same_nodes t.nodes ls parts.0) ∙ ap (λ us. t ∷ us) (plain_same_trees ts (leaves_after ls t.nodes) parts.1)
 
-plain_same_last : (u : Option Tree) (ls : List Leaf) → none_last u ≡ true → plain_last ls u ≡ u
+pub plain_same_last : (u : Option Tree) (ls : List Leaf) → none_last u ≡ true → plain_last ls u ≡ u
 plain_same_last None ls h = refl
 plain_same_last (Some t) ls h = ap (λ ns. Some (tree_with ns)) (plain_same_nodes t.nodes ls h)
 
@@ -608,18 +608,18 @@ two_last : (u : Option Tree) (ks : List (List ℕ)) (m : Named) → last_named (
 two_last None ks m h = refl
 two_last (Some t) ks m h = ap (λ ns. Some (tree_with ns)) (two_nodes t.nodes ks m h).0
 
-record PlainRight (ls : List Leaf) (ns : List SearchNode) (m : Named) : Type 0 where
+pub record PlainRight (ls : List Leaf) (ns : List SearchNode) (m : Named) : Type 0 where
   pub none : no_names (plain_nodes ls ns) ≡ true
   pub bounded : nodes_bounded (plain_nodes ls ns) ≡ true
   pub lines : m ≡ named_two (map leaf_text (leaves_after ls ns))
   pub leaves : list_all leaf_in_bounds (leaves_after ls ns) ≡ true
 
-some_at : (ls : List Leaf) (q : ℕ) → q < length ls → (leaf : Leaf) × (slice_get ls q ≡ Some leaf)
+pub some_at : (ls : List Leaf) (q : ℕ) → q < length ls → (leaf : Leaf) × (slice_get ls q ≡ Some leaf)
 some_at [] q l = absurd (omega arith)
 some_at (x ∷ ls) zero l = (x, refl)
 some_at (x ∷ ls) (suc q) l = some_at ls q (omega arith)
 
-plain_right : (ns : List SearchNode) (ls : List Leaf) (m : Named) → nodes_named (named_two (map leaf_text ls)) ns ≡ Some m → nodes_bounded ns ≡ true → list_all leaf_in_bounds ls ≡ true → PlainRight ls ns m
+pub plain_right : (ns : List SearchNode) (ls : List Leaf) (m : Named) → nodes_named (named_two (map leaf_text ls)) ns ≡ Some m → nodes_bounded ns ≡ true → list_all leaf_in_bounds ls ≡ true → PlainRight ls ns m
 plain_right [] ls m h b l = record { none = refl; bounded = refl; lines = sym (same_Some (named_two (map leaf_text ls)) m h); leaves = l }
 plain_right (Branch p ∷ ns) ls m h b l =
     let parts = and_parts (in_bounds (Node (Branch p))) (nodes_bounded ns) b in
@@ -654,13 +654,13 @@ plain_right (Closing leaf ∷ ns) ls m h b l =
     fresh true x y e = absurd (none-some y e)
     fresh false x y e = same_Some x y e
 
-record PlainTrees (ls : List Leaf) (ts : List Tree) (m : Named) : Type 0 where
+pub record PlainTrees (ls : List Leaf) (ts : List Tree) (m : Named) : Type 0 where
   pub none : none_in (plain_trees ls ts) ≡ true
   pub bounded : trees_bounded (plain_trees ls ts) ≡ true
   pub lines : m ≡ named_two (map leaf_text (leaves_behind ls ts))
   pub leaves : list_all leaf_in_bounds (leaves_behind ls ts) ≡ true
 
-plain_trees_right : (ts : List Tree) (ls : List Leaf) (m : Named) → trees_named (named_two (map leaf_text ls)) ts ≡ Some m → trees_bounded ts ≡ true → list_all leaf_in_bounds ls ≡ true → PlainTrees ls ts m
+pub plain_trees_right : (ts : List Tree) (ls : List Leaf) (m : Named) → trees_named (named_two (map leaf_text ls)) ts ≡ Some m → trees_bounded ts ≡ true → list_all leaf_in_bounds ls ≡ true → PlainTrees ls ts m
 plain_trees_right [] ls m h b l = record { none = refl; bounded = refl; lines = sym (same_Some (named_two (map leaf_text ls)) m h); leaves = l }
 plain_trees_right (t ∷ ts) ls m h b l =
     let parts = and_parts (nodes_bounded t.nodes) (trees_bounded ts) b in
@@ -690,13 +690,13 @@ last_one (Some t) h = nodes_one t.nodes h
 
 -- ---- the whole certificate
 
-record Names (c : Certificate) : Type 0 where
+pub record Names (c : Certificate) : Type 0 where
   pub middle : Named
   pub end : Named
   pub trees : trees_named (none_named c.version) c.levels ≡ Some middle
   pub last : last_named middle c.unfinished ≡ Some end
 
-names_of : (c : Certificate) (end : Named) → all_named (none_named 0) (lines_of c) ≡ Some end → Names c
+pub names_of : (c : Certificate) (end : Named) → all_named (none_named 0) (lines_of c) ≡ Some end → Names c
 names_of c end h =
     let first = then_is (trees_named (none_named c.version) c.levels) (λ m. last_named m c.unfinished) end (sym (names_are c) ∙ h) in
     record { middle = first.0; end = end; trees = first.1; last = first.2 }
@@ -705,17 +705,17 @@ names_from : (c : Certificate) (middle end : Named) → trees_named (none_named 
 names_from c middle end trees last = names_are c ∙ ap (λ o. names_then o (λ m. last_named m c.unfinished)) trees ∙ last
 
 -- a certificate of version 1
-record One (c : Certificate) : Type 0 where
+pub record One (c : Certificate) : Type 0 where
   pub version : c.version ≡ 1
   pub trees : none_in c.levels ≡ true
   pub last : none_last c.unfinished ≡ true
 
-one_is : (c : Certificate) → c.version ≡ 1 → Names c → One c
+pub one_is : (c : Certificate) → c.version ≡ 1 → Names c → One c
 one_is c v n =
     let trees = one_trees c.levels n.middle (ap (λ k. trees_named (none_named k) c.levels) (sym v) ∙ n.trees) in
     record { version = v; trees = trees.0; last = one_last c.unfinished n.end (ap (λ k. last_named k c.unfinished) (sym trees.1) ∙ n.last) }
 
-one_plain : (c : Certificate) → One c → plain c ≡ c
+pub one_plain : (c : Certificate) → One c → plain c ≡ c
 one_plain c one =
     let levels = plain_same_trees c.levels [] one.trees in
     let last = plain_same_last c.unfinished (leaves_behind [] c.levels) one.last in
@@ -737,7 +737,7 @@ two_share c v n =
     ap (λ ts. record c { version = 2; levels = ts; unfinished = shared_last (lines_behind [] c.levels) c.unfinished }) trees.0
     ∙ ap (λ u. record c { version = 2; unfinished = u }) last ∙ ap (λ k. record c { version = k }) (sym v)
 
-one_or_two : (v : ℕ) → is_version v ≡ true → (v ≡ 1) ⊎ (v ≡ 2)
+pub one_or_two : (v : ℕ) → is_version v ≡ true → (v ≡ 1) ⊎ (v ≡ 2)
 one_or_two v h =
     let parts = and_parts (nat_le 1 v) (nat_le v 2) h in
     let low = leb-true 1 v parts.0 in

@@ -1,6 +1,7 @@
 -- Leaf lines that a later line may name; a certificate that names them, and one that names none.
-use Rattle.std.specs.Prelude.{ℕ, ◌≡◌, ◌==◌, nat_lt, Bool, true, false, if◌then◌else◌, Option, Some, None, List, [], ◌∷◌, ◌++◌, length, position, slice_get, bytes_eq}
-use Rattle.std.specs.List.{list_any}
+use Rattle.std.specs.Prelude.{ℕ, ◌≡◌, ◌==◌, nat_lt, Bool, true, false, if◌then◌else◌, Option, Some, None, is_some, List, [], ◌∷◌, ◌++◌, length, position, slice_get, bytes_eq}
+use Rattle.std.specs.List.{list_any, list_all}
+use Rattle.std.specs.Option.{unwrap_or}
 use Rattle.duality.specs.declared.leaf.Leaf.{Leaf}
 use Rattle.duality.specs.declared.leaf.Node.{Node as SearchNode}
 use Rattle.duality.specs.declared.leaf.Node.TheVariants.{Branch, Leaf as Closing, OpenEnd, Same}
@@ -9,7 +10,7 @@ use Rattle.cert_text.specs.declared.lines.Certificate.{Certificate}
 use Rattle.cert_text.specs.declared.lines.CertLine.{CertLine}
 use Rattle.cert_text.specs.declared.lines.CertLine.TheVariants.{Head, Node}
 use Rattle.cert_text.specs.declared.named.Named.{Named}
-use Rattle.cert_text.specs.Spelling.{line_text}
+use Rattle.cert_text.specs.Spelling.{line_text, line_of}
 
 abbrev pub leaf_text : Leaf → List ℕ
 leaf_text leaf = line_text (Node (Closing leaf))
@@ -59,6 +60,51 @@ names_then (Some k) f = f k
 abbrev pub all_named : Named → List CertLine → Option Named
 all_named k [] = Some k
 all_named k (l ∷ ls) = names_then (named k l) (λ next. all_named next ls)
+
+-- ---- what a line means
+
+-- the leaf that a line spells
+abbrev pub leaf_in : Option CertLine → Option Leaf
+leaf_in (Some (Node (Closing leaf))) = Some leaf
+leaf_in l = None
+
+abbrev pub leaf_node : ℕ → Option Leaf → SearchNode
+leaf_node q None = Same q
+leaf_node q (Some leaf) = Closing leaf
+
+abbrev pub named_node : ℕ → Option (List ℕ) → SearchNode
+named_node q None = Same q
+named_node q (Some line) = leaf_node q (leaf_in (line_of line))
+
+-- a node that names a leaf line means the leaf
+abbrev pub meant_node : List (List ℕ) → SearchNode → SearchNode
+meant_node lines (Same q) = named_node q (slice_get lines q)
+meant_node lines n = n
+
+abbrev pub meant : List (List ℕ) → CertLine → CertLine
+meant lines (Node n) = Node (meant_node lines n)
+meant lines l = l
+
+-- a line that names no other
+abbrev pub is_plain : CertLine → Bool
+is_plain (Node (Same q)) = false
+is_plain l = true
+
+-- what may be named behind a line, whether it may come or not
+abbrev pub named_behind : Named → CertLine → Named
+named_behind k l = unwrap_or (named k l) k
+
+-- what the lines mean, one after the other
+abbrev pub plain_lines : Named → List CertLine → List CertLine
+plain_lines k [] = []
+plain_lines k (l ∷ ls) = meant k.lines l ∷ plain_lines (named_behind k l) ls
+
+-- lines of leaves within their bounds
+abbrev pub is_leaf_line : List ℕ → Bool
+is_leaf_line line = is_some (leaf_in (line_of line))
+
+abbrev pub are_leaf_lines : List (List ℕ) → Bool
+are_leaf_lines lines = list_all is_leaf_line lines
 
 -- ---- each leaf once, and each leaf where it stands
 

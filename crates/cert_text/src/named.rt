@@ -2,9 +2,10 @@ ghost use Rattle.std.specs.Prelude.{◌≡◌, ◌^◌, IfOk};
 ghost use Rattle.duality.specs.declared.leaf.Node.TheVariants as nodes;
 ghost use Rattle.cert_text.specs.Spelling.{line_text};
 ghost use Rattle.cert_text.specs.declared.lines.CertLine.TheVariants as lines;
-ghost use Rattle.cert_text.specs.Sharing.{none_named, named, names, leaf_named, TookName};
+ghost use Rattle.cert_text.specs.Sharing.{none_named, named, names, leaf_named, leaf_in, leaf_node, meant_node, meant, TookName};
 
 use crate::leaf_lines::LeafLines;
+use crate::line::read_line;
 use crate::lines::CertLine;
 use duality::Node;
 use input_core::Memory;
@@ -46,6 +47,29 @@ impl Named {
         }
     }
 
+    /// The line, or where it names a leaf line, the line that it names.
+    pub fn meant(&self, alloc: Global, line: CertLine) -> Result<CertLine, Memory>
+        ensures { IfOk result (λ l. l ≡ meant self.now.lines line) }
+    {
+        match line {
+            CertLine::Node(Node::Same(number)) => {
+                let node = self.named_node(alloc, number)?;
+                Ok(CertLine::Node(node))
+            }
+            line => Ok(line),
+        }
+    }
+
+    // The leaf whose line has the number.
+    fn named_node(&self, alloc: Global, number: u64) -> Result<Node, Memory>
+        ensures { IfOk result (λ n. n ≡ meant_node self.now.lines (nodes.Same number)) }
+    {
+        let Some(line) = self.lines.get(number as usize) else {
+            return Ok(Node::Same(number));
+        };
+        Ok(leaf_node(number, read_line(alloc, line)?))
+    }
+
     fn take_node(&mut self, alloc: Global, node: &Node, bytes: &[u8]) -> Result<bool, Memory>
         requires { bytes.now ≡ line_text (lines.Node node.now) }
         ensures { IfOk result (TookName (names self.old node.now) self.new) }
@@ -64,5 +88,14 @@ impl Named {
             return Ok(true);
         }
         self.lines.add(Vec::from_slice(alloc, line)?)
+    }
+}
+
+fn leaf_node(number: u64, line: Option<CertLine>) -> Node
+    ensures { result ≡ leaf_node number (leaf_in line) }
+{
+    match line {
+        Some(CertLine::Node(Node::Leaf(leaf))) => Node::Leaf(leaf),
+        _ => Node::Same(number),
     }
 }
