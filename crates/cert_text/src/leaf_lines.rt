@@ -2,8 +2,7 @@ ghost use Rattle.std.specs.Prelude.{◌≡◌, ◌<◌, ◌^◌, [], length, not
 ghost use Rattle.cert_text.specs.Sharing.{has_line, place_of_line, with_line};
 
 use indexmap::IndexSet;
-use input_core::Memory;
-use std::alloc::Global;
+use std::alloc::{AllocError, Global};
 use std::marker::Model;
 
 /// Different leaf lines in the order in which they came, each found by a look-up. Contracts see the list of
@@ -32,12 +31,12 @@ impl LeafLines {
     }
 
     /// Adds a line at the end, where it is a new one, and says whether it is.
-    pub fn add(&mut self, line: Vec<u8>) -> Result<bool, Memory>
+    pub fn add(&mut self, line: Vec<u8>) -> Result<bool, AllocError>
         ensures fresh { IfOk result (λ fresh. fresh ≡ not (has_line line.items self.old)) }
         ensures lines { OnOk result (self.new ≡ with_line self.old line.items) }
     {
         let Ok(fresh) = self.set.insert(line) else {
-            return Err(Memory);
+            return Err(AllocError);
         };
         Ok(fresh)
     }

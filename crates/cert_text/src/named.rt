@@ -8,8 +8,7 @@ use crate::leaf_lines::LeafLines;
 use crate::line::read_line;
 use crate::lines::CertLine;
 use duality::Node;
-use input_core::Memory;
-use std::alloc::Global;
+use std::alloc::{AllocError, Global};
 
 /// The version of a text, and the leaf lines that a later line may name by their number: in version 2 all
 /// before it, in version 1 none.
@@ -32,7 +31,7 @@ impl Named {
 
     /// Takes a line, which the bytes spell, and says whether it may come: a line that names a leaf line is to
     /// name one before it, and in version 2 no leaf line is to be equal to an earlier one.
-    pub fn take(&mut self, alloc: Global, line: &CertLine, bytes: &[u8]) -> Result<bool, Memory>
+    pub fn take(&mut self, alloc: Global, line: &CertLine, bytes: &[u8]) -> Result<bool, AllocError>
         requires { bytes.now ≡ line_text line.now }
         ensures { IfOk result (TookName (named self.old line.now) self.new) }
     {
@@ -48,7 +47,7 @@ impl Named {
     }
 
     /// The line, or where it names a leaf line, the line that it names.
-    pub fn meant(&self, alloc: Global, line: CertLine) -> Result<CertLine, Memory>
+    pub fn meant(&self, alloc: Global, line: CertLine) -> Result<CertLine, AllocError>
         ensures { IfOk result (λ l. l ≡ meant self.now.lines line) }
     {
         match line {
@@ -61,7 +60,7 @@ impl Named {
     }
 
     // The leaf whose line has the number.
-    fn named_node(&self, alloc: Global, number: u64) -> Result<Node, Memory>
+    fn named_node(&self, alloc: Global, number: u64) -> Result<Node, AllocError>
         ensures { IfOk result (λ n. n ≡ meant_node self.now.lines (nodes.Same number)) }
     {
         let Some(line) = self.lines.get(number as usize) else {
@@ -70,7 +69,7 @@ impl Named {
         Ok(leaf_node(number, read_line(alloc, line)?))
     }
 
-    fn take_node(&mut self, alloc: Global, node: &Node, bytes: &[u8]) -> Result<bool, Memory>
+    fn take_node(&mut self, alloc: Global, node: &Node, bytes: &[u8]) -> Result<bool, AllocError>
         requires { bytes.now ≡ line_text (lines.Node node.now) }
         ensures { IfOk result (TookName (names self.old node.now) self.new) }
     {
@@ -81,7 +80,7 @@ impl Named {
         }
     }
 
-    fn take_leaf(&mut self, alloc: Global, line: &[u8]) -> Result<bool, Memory>
+    fn take_leaf(&mut self, alloc: Global, line: &[u8]) -> Result<bool, AllocError>
         ensures { IfOk result (TookName (leaf_named self.old line.now) self.new) }
     {
         if self.version != 2 {

@@ -13,7 +13,7 @@ use crate::lines::{CertLine, Certificate, Tree};
 use crate::named::Named;
 use crate::place::{Place, step};
 use duality::Node;
-use input_core::{LineFault, LineKind, Memory, TextFault};
+use input_core::{LineFault, LineKind, TextFault};
 use std::alloc::{AllocError, Global};
 use std::mem;
 use values::Items;
@@ -94,7 +94,7 @@ impl Reader {
     }
 
     // Takes a line by its bytes, and says whether it may come.
-    fn take_bytes(&mut self, alloc: Global, line: &[u8]) -> Result<bool, Memory>
+    fn take_bytes(&mut self, alloc: Global, line: &[u8]) -> Result<bool, AllocError>
         requires sound { IsSoundReader self.old }
         requires few { length self.old.nodes < 2 ^ 63 }
         ensures took { IfOk result (Took (takes (standing_of self.old) line.now) (standing_of self.new)) }
@@ -109,7 +109,7 @@ impl Reader {
     }
 
     // Takes a line, which the bytes spell, and says whether it may come.
-    fn take(&mut self, alloc: Global, line: CertLine, bytes: &[u8]) -> Result<bool, Memory>
+    fn take(&mut self, alloc: Global, line: CertLine, bytes: &[u8]) -> Result<bool, AllocError>
         requires sound { IsSoundReader self.old }
         requires spelled { bytes.now ≡ line_text line }
         requires few { length self.old.nodes < 2 ^ 63 }
