@@ -5,7 +5,7 @@ use Rattle.meeting_patterns.specs.Pattern.{patterns_of}
 use Rattle.packing_model.specs.Built.{packing}
 use Rattle.packing_model.specs.Nodes.{fixed_of, stage_at}
 use Rattle.packing_model.specs.Closing.{counted}
-use Rattle.packing_model.proofs.close.test_costs.Given as goal
+use Rattle.packing_model.proofs.costs.test_by_sums.Given as goal
 
 abbrev pub invariant-loop-pattern : goal.invariant-loop-pattern
 invariant-loop-pattern g l =

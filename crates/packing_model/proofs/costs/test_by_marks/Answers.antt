@@ -7,7 +7,7 @@ use Rattle.duality.specs.Packing.{Packing, Weights, Stage, Fixing}
 use Rattle.packing_model.specs.Built.{packing}
 use Rattle.packing_model.specs.Nodes.{fixed_of, stage_at}
 use Rattle.packing_model.specs.Closing.{counted}
-use Rattle.packing_model.proofs.close.test_costs.Goals as goal
+use Rattle.packing_model.proofs.costs.test_by_marks.Goals as goal
 
 pub returns-then-is_costly : goal.returns-then-is_costly
 returns-then-is_costly g c =

@@ -1,7 +1,7 @@
 use Rattle.std.proofs.Common.{length, drop, ◌+◌, ◌-◌, nat_lt}
 use Rattle.meeting_patterns.specs.Pattern.{patterns_of}
 use Rattle.packing_model.proofs.ListLemmas.{all_take, all_drop}
-use Rattle.packing_model.proofs.cut.first_apart.Goals as goal
+use Rattle.packing_model.proofs.cut.first_apart_by_pairs.Goals as goal
 
 pub first_clear_of-requires-clause-others : goal.first_clear_of-requires-clause-others
 first_clear_of-requires-clause-others c =
