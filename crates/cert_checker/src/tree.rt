@@ -14,7 +14,7 @@ ghost use Rattle.cert_checker.specs.Trees.{IsLeafWithin, IsNodeWithin, NodeAfter
 use crate::verdict::Reason;
 use cert_text::Node;
 use duality::Objective;
-use packing_model::{Leaf, LeafFault, Model, ObjectiveAt, Pool, close_leaf, is_free};
+use packing_model::{Leaf, LeafFault, Model, ObjectiveAt, Pool, close_leaf};
 use problem_core::Memory;
 use search_nodes::Walk;
 
@@ -75,6 +75,7 @@ impl<O: Objective> TreeAt<'_, O> {
         match self.close(walk, leaf) {
             Ok(()) => {
                 walk.turn()?;
+                walk.mark_rows(self.model)?;
                 Ok(None)
             }
             Err(fault) => Ok(Some(reason_of(fault))),
@@ -115,7 +116,7 @@ fn branch_reason(model: &Model, walk: &mut Walk, pattern: u32) -> Result<Option<
     if pattern >= model.patterns().len() {
         return Ok(Some(Reason::Pattern { pattern }));
     }
-    if !is_free(model, &walk.fixing, pattern) {
+    if !walk.is_free(model, pattern) {
         return Ok(Some(Reason::NotFree { pattern }));
     }
     walk.branch(pattern)?;

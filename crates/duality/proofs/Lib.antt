@@ -8,3 +8,4 @@ pub mod RunLaws
 pub mod StageLaws
 pub mod AfterLaws
 pub mod UnitLaws
+pub mod RowSumLaws

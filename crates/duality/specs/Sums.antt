@@ -1,10 +1,11 @@
 -- The sums of a leaf as they are computed: a row's multiplier, what the rows of a pattern cost, and the
 -- level rows apart.
 use Rattle.std.specs.Prelude.{ℕ, ℤ, pos, ◌≡◌, ◌<◌, ◌≤◌, ◌≤ℤ◌, ◌+◌, ◌-ℤ◌, ◌*ℤ◌, ◌^◌, ◌==◌, ◌&&◌, ◌||◌, not, Bool, true, false, nat_lt, nat_le, if◌then◌else◌, unsigned_abs, Option, Some, None, List, [], ◌∷◌, length, slice_index_or}
-use Rattle.std.specs.List.{list_all}
+use Rattle.std.specs.List.{list_all, AllByRecursion}
 use Rattle.numbers.specs.Sums.{total, picked, sum_below, member}
 use Rattle.duality.specs.declared.row.RowName.{RowName}
 use Rattle.duality.specs.declared.row.RowName.TheVariants.{Base, Cut, Level}
+use Rattle.duality.specs.declared.row.Run.{Run}
 use Rattle.duality.specs.declared.row.Term.{Term}
 use Rattle.duality.specs.declared.objective.Weighed.{Weighed}
 use Rattle.duality.specs.declared.objective.Weighed.TheVariants.{Floor, Level as AtLevel}
@@ -116,6 +117,15 @@ weighed_at j = if j == floor_level then Floor else AtLevel j
 pub record HaveTargets (times targets : List ℤ) : Type 0 where
   pub some : (i : ℕ) → i < 6 → length targets ≤ i → slice_index_or times i (pos 0) ≡ pos 0
   pub small : (i : ℕ) → i < length targets → IsWithin (10 ^ 12) (slice_index_or targets i (pos 0))
+
+-- each entry of the table is what the multipliers of the base rows below its number sum to
+pub record AreRowSums (terms : List Term) (below : List ℤ) : Type 0 where
+  pub each : (r : ℕ) → r < length below → slice_index_or below r (pos 0) ≡ sum_below (λ i. times_of terms (Base i)) r
+  pub small : (r : ℕ) → r < length below → IsWithin (10 ^ 24) (times_of terms (Base r))
+
+-- each run ends below the last entry of a table of so many entries, or at it
+abbrev pub AreInTable : ℕ → List Run → Type 0
+AreInTable entries runs = AllByRecursion (λ r. r.first + r.count < entries) runs
 
 -- a best value, where there is one, is at most 10^12 in size
 abbrev pub IsValue : Option ℤ → Type 0

@@ -3,15 +3,14 @@ ghost use Rattle.std.specs.List.{list_all};
 ghost use Rattle.numbers.specs.Sums.{total};
 ghost use Rattle.duality.specs.Packing.{level_coefficient, level_side};
 ghost use Rattle.duality.specs.Leaf.{is_under};
-ghost use Rattle.duality.specs.Runs.{rows_in, AreBelow};
-ghost use Rattle.duality.specs.Sums.{rises, are_small, is_small, IsWithin, times_of, clique_worth, level_sum, AreLevelTimes, AreOfLevels, HaveTargets, IsValue};
+ghost use Rattle.duality.specs.Runs.{rows_in};
+ghost use Rattle.duality.specs.Sums.{rises, are_small, is_small, IsWithin, times_of, clique_worth, level_sum, AreLevelTimes, AreOfLevels, HaveTargets, IsValue, AreRowSums, AreInTable};
 
 use crate::leaf::Leaf;
 use crate::objective::{Objective, Weighed};
 use crate::row::{RowName, Run};
-use crate::sums::{
-    added, clique_worth, priced_cliques, priced_levels, product, weigh, weight_of, worth_levels,
-};
+use crate::row_sums::RowSums;
+use crate::sums::{added, clique_worth, priced_levels, product, weigh, weight_of, worth_levels};
 
 // A sum less a part, both far from the ends of the type.
 fn lessened(sum: i128, part: i128) -> i128
@@ -23,12 +22,14 @@ fn lessened(sum: i128, part: i128) -> i128
 }
 
 /// The reduced cost of a pattern that stands in the base rows of these runs and in these cuts: the scale times its weight,
-/// less what the rows cost it. `times` are the multipliers of the leaf's level rows.
+/// less what the rows cost it. `times` are the multipliers of the leaf's level rows, and `sums` the sums of its
+/// terms over base rows.
 pub fn reduced_cost<O: Objective>(
     objective: &O,
     level: u32,
     leaf: &Leaf,
     times: &[i128; 7],
+    sums: &RowSums,
     base: &[Run],
     cuts: &[RowName],
     pattern: u32,
@@ -41,8 +42,11 @@ pub fn reduced_cost<O: Objective>(
     requires small { are_small leaf.now.terms ≡ true }
     requires times { AreLevelTimes leaf.now.terms times.now }
     requires levels { AreOfLevels (O.levels objective.now) times.now }
+    requires terms { sums.now.terms.now ≡ leaf.now.terms }
+    requires sums { AreRowSums leaf.now.terms sums.now.below.now }
+    requires few_sums { length sums.now.below.now ≤ 4001 }
     requires few_base { length (rows_in base.now) ≤ 4000 }
-    requires low_base { AreBelow 4000 base.now }
+    requires low_base { AreInTable (length sums.now.below.now) base.now }
     requires few_cuts { length cuts.now ≤ 1000 }
     ensures { result ≡ (leaf.now.scale *ℤ O.weight objective.now level pattern) -ℤ ((total (times_of leaf.now.terms) (rows_in base.now ++ cuts.now)) +ℤ
         level_sum leaf.now.terms (λ j. level_coefficient (record { weight = O.weight objective.now; floor = O.floor objective.now }) j pattern)) }
@@ -54,7 +58,7 @@ pub fn reduced_cost<O: Objective>(
     let patterns = [pattern];
     let cost = added(
         priced_levels(objective, times, &patterns),
-        priced_cliques(leaf.terms.as_slice(), base, cuts),
+        sums.priced_cliques(base, cuts),
     );
     lessened(gain, cost)
 }

@@ -12,3 +12,5 @@ pub mod RunLemmas
 pub mod StepLemmas
 pub mod TableLemmas
 pub mod ModelLemmas
+pub mod MarkLemmas
+pub mod BitLemmas

@@ -1,8 +1,8 @@
 -- Two patterns of a base row clash.
-use Rattle.std.proofs.Common.{ℕ, ◌≡◌, ◌<◌, inl, inr, zero, suc, Bool, true, false, not, ◌&&◌, ◌||◌, arith, ap, sym, ◌∙◌, List, [], ◌∷◌, length}
+use Rattle.std.proofs.Common.{ℕ, ◌≡◌, ◌≢◌, ◌<◌, inl, inr, zero, suc, Bool, true, false, not, ◌&&◌, ◌||◌, arith, ap, sym, ◌∙◌, List, [], ◌∷◌, length}
 use Rattle.std.specs.Prelude.{◌==◌, nat_lt}
 use Rattle.std.specs.List.{list_any}
-use Rattle.std.proofs.lemmas.Bool.{ltb-true, cases_eq, cases_Bool, and_parts, and_from, or_left, or_right, not_from_false, eq-eqb, eqb-true, ne_eqb, true≢false, and_left, and_right}
+use Rattle.std.proofs.lemmas.Bool.{ltb-true, cases_eq, cases_lt, cases_Bool, and_parts, and_from, or_left, or_right, not_from_false, eq-eqb, eqb-true, ne_eqb, true≢false, and_left, and_right}
 use Rattle.numbers.specs.Below.{any_below, any_below_at}
 use Rattle.problem_core.specs.Facts.{Facts, takes_slot, share_slot, event_at}
 use Rattle.meeting_patterns.specs.Pattern.{within, IsBefore, ArePatterns, pattern_at, is_same, share_event, share_a_slot, clash}
@@ -65,3 +65,26 @@ row_clash p (Level k) x y differ hx hy = absurd (true≢false (sym hx))
 pub base_clash : (p : Facts) (s : List Pattern) (row : Row) (i j : ℕ) → ArePatterns p s → i < j → j < length s → stands_in p row (pattern_at s i) ≡ true → stands_in p row (pattern_at s j) ≡ true
     → clash p (pattern_at s i) (pattern_at s j) ≡ true
 base_clash p s row i j are l m hx hy = row_clash p row (pattern_at s i) (pattern_at s j) (before_differs (pattern_at s i) (pattern_at s j) (are.rising i j l m)) hx hy
+
+differs_back : (x y : Pattern) → is_same x y ≡ false → is_same y x ≡ false
+differs_back x y h = elim (cases_Bool (is_same y x)) [
+  | inl same ↦
+      let outer = and_parts ((y.course == x.course) && (y.room == x.room)) (y.mask == x.mask) same in
+      let inner = and_parts (y.course == x.course) (y.room == x.room) outer.0 in
+      let back : is_same x y ≡ true =
+      and_from ((x.course == y.course) && (x.room == y.room)) (x.mask == y.mask)
+      (and_from (x.course == y.course) (x.room == y.room) (eq-eqb x.course y.course (sym (eqb-true y.course x.course inner.0))) (eq-eqb x.room y.room (sym (eqb-true y.room x.room inner.1))))
+      (eq-eqb x.mask y.mask (sym (eqb-true y.mask x.mask outer.1))) in
+      absurd (true≢false (sym back ∙ h))
+  | inr other ↦ other
+]
+
+-- the same in any order
+pub base_clash_any : (p : Facts) (s : List Pattern) (row : Row) (i j : ℕ) → ArePatterns p s → i ≢ j → i < length s → j < length s → stands_in p row (pattern_at s i) ≡ true → stands_in p row (pattern_at s j) ≡ true
+    → clash p (pattern_at s i) (pattern_at s j) ≡ true
+base_clash_any p s row i j are other l m hx hy = elim (cases_lt i j) [
+  | inl before ↦ base_clash p s row i j are before m hx hy
+  | inr after ↦
+      let differ : is_same (pattern_at s i) (pattern_at s j) ≡ false = differs_back (pattern_at s j) (pattern_at s i) (before_differs (pattern_at s j) (pattern_at s i) (are.rising j i (omega (arith, after, other)) l)) in
+      row_clash p row (pattern_at s i) (pattern_at s j) differ hx hy
+]

@@ -5,22 +5,22 @@ ghost use Rattle.problem_core.specs.Choice.{IsLegal};
 ghost use Rattle.problem_core.specs.Measures.{measure};
 ghost use Rattle.meeting_patterns.specs.Pattern.{patterns_of};
 ghost use Rattle.duality.specs.Packing.{AreCliques, IsFixing, is_there, has_sign};
-ghost use Rattle.duality.specs.Leaf.{reduced, costs, left_side, terms_fault, cost_fault, bound_fault, leaf_fault};
+ghost use Rattle.duality.specs.Leaf.{left_side, terms_fault, bound_fault, leaf_fault};
 ghost use Rattle.duality.specs.Sums.{rises, are_small, is_small, clique_priced, AreLevelTimes, IsWithin, IsValue};
 ghost use Rattle.packing_model.specs.Built.{packing, measured, rows_of};
 ghost use Rattle.packing_model.specs.Cuts.{IsPoolOf};
 ghost use Rattle.packing_model.specs.Nodes.{IsValidFixing, fixed_of, stage_at, AreTargets, ok_unless};
 ghost use Rattle.packing_model.specs.Closing.{counted, Caps, Empties, HasTargets, choice_of};
 
+use crate::costs::test_costs;
 use crate::fixing::Fixing;
-use crate::free::is_free;
 use crate::laws::packing_laws;
 use crate::measured::Measured;
 use crate::model::Model;
 use crate::pool::Pool;
 use duality::{
     FLOOR_LEVEL, Leaf, LeafFault, Objective, RowName, Term, added, is_under, leaf_laws, left_side,
-    level_times, priced_cliques, reduced_cost, sum_laws,
+    level_times, priced_cliques, sum_laws,
 };
 use meeting_patterns::pattern_laws;
 
@@ -176,78 +176,6 @@ fn has_sign(row: RowName, times: i128) -> bool
         RowName::Base(_) | RowName::Cut(_) | RowName::Level(FLOOR_LEVEL) => 0 <= times,
         RowName::Level(_) => true,
     }
-}
-
-// The lowest free pattern whose reduced cost is positive.
-fn test_costs<O: Objective>(
-    at: &ObjectiveAt<O>,
-    leaf: &Leaf,
-    times: &[i128; 7],
-) -> Result<(), LeafFault>
-    requires count { O.count at.now.objective.now ≡ length (patterns_of at.now.model.now) }
-    requires pool { IsPoolOf (packing at.now.model.now) at.now.pool.now }
-    requires fixing { IsValidFixing (packing at.now.model.now) at.now.fixing.now }
-    requires high { at.now.level ≤ O.levels at.now.objective.now }
-    requires targets { AreTargets at.now.level at.now.targets.now }
-    requires small_scale { is_small (10 ^ 24) leaf.now.scale ≡ true }
-    requires rising { rises leaf.now.terms ≡ true }
-    requires small { are_small leaf.now.terms ≡ true }
-    requires there { list_all (λ t. is_there (packing at.now.model.now) (counted (O.weight at.now.objective.now) (O.floor at.now.objective.now)) (stage_at at.now.level at.now.targets.now at.now.best at.now.pool.now) t.row) leaf.now.terms ≡ true }
-    requires times { AreLevelTimes leaf.now.terms times.now }
-    ensures { result ≡ ok_unless (cost_fault (packing at.now.model.now) (counted (O.weight at.now.objective.now) (O.floor at.now.objective.now)) (stage_at at.now.level at.now.targets.now at.now.best at.now.pool.now) (fixed_of at.now.fixing.now) leaf.now) }
-{
-    for pattern in 0..at.objective.count() {
-        if is_costly(at, leaf, times, pattern) {
-            return Err(LeafFault::Cost { pattern });
-        }
-    }
-    Ok(())
-}
-
-// Whether the pattern is free and its reduced cost is positive. The cost is tested first, as the cheaper.
-fn is_costly<O: Objective>(
-    at: &ObjectiveAt<O>,
-    leaf: &Leaf,
-    times: &[i128; 7],
-    pattern: u32,
-) -> bool
-    requires known { pattern < length (patterns_of at.now.model.now) }
-    requires count { O.count at.now.objective.now ≡ length (patterns_of at.now.model.now) }
-    requires pool { IsPoolOf (packing at.now.model.now) at.now.pool.now }
-    requires fixing { IsValidFixing (packing at.now.model.now) at.now.fixing.now }
-    requires high { at.now.level ≤ O.levels at.now.objective.now }
-    requires targets { AreTargets at.now.level at.now.targets.now }
-    requires small_scale { is_small (10 ^ 24) leaf.now.scale ≡ true }
-    requires rising { rises leaf.now.terms ≡ true }
-    requires small { are_small leaf.now.terms ≡ true }
-    requires there { list_all (λ t. is_there (packing at.now.model.now) (counted (O.weight at.now.objective.now) (O.floor at.now.objective.now)) (stage_at at.now.level at.now.targets.now at.now.best at.now.pool.now) t.row) leaf.now.terms ≡ true }
-    requires times { AreLevelTimes leaf.now.terms times.now }
-    ensures { result ≡ costs (packing at.now.model.now) (counted (O.weight at.now.objective.now) (O.floor at.now.objective.now)) (stage_at at.now.level at.now.targets.now at.now.best at.now.pool.now) (fixed_of at.now.fixing.now) leaf.now pattern }
-{
-    if cost_of(at, leaf, times, pattern) <= 0 {
-        return false;
-    }
-    is_free(at.model, at.fixing, pattern)
-}
-
-// The reduced cost of the pattern.
-fn cost_of<O: Objective>(at: &ObjectiveAt<O>, leaf: &Leaf, times: &[i128; 7], pattern: u32) -> i128
-    requires known { pattern < length (patterns_of at.now.model.now) }
-    requires count { O.count at.now.objective.now ≡ length (patterns_of at.now.model.now) }
-    requires pool { IsPoolOf (packing at.now.model.now) at.now.pool.now }
-    requires high { at.now.level ≤ O.levels at.now.objective.now }
-    requires targets { AreTargets at.now.level at.now.targets.now }
-    requires small_scale { is_small (10 ^ 24) leaf.now.scale ≡ true }
-    requires rising { rises leaf.now.terms ≡ true }
-    requires small { are_small leaf.now.terms ≡ true }
-    requires there { list_all (λ t. is_there (packing at.now.model.now) (counted (O.weight at.now.objective.now) (O.floor at.now.objective.now)) (stage_at at.now.level at.now.targets.now at.now.best at.now.pool.now) t.row) leaf.now.terms ≡ true }
-    requires times { AreLevelTimes leaf.now.terms times.now }
-    ensures { result ≡ reduced (packing at.now.model.now) (counted (O.weight at.now.objective.now) (O.floor at.now.objective.now)) (stage_at at.now.level at.now.targets.now at.now.best at.now.pool.now) leaf.now pattern }
-{
-    sum_laws();
-    let base = at.model.base_runs(pattern);
-    let cuts = at.pool.cut_rows(pattern);
-    reduced_cost(at.objective, at.level, leaf, times, base, cuts, pattern)
 }
 
 // Whether the left side is below what the best value asks for.

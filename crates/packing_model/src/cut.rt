@@ -1,10 +1,12 @@
-ghost use Rattle.std.specs.Prelude.{◌≡◌, ◌<◌, ◌≤◌, ℕ, List, length, true, nat_lt};
+ghost use Rattle.std.specs.Prelude.{◌≡◌, ◌<◌, ◌≤◌, ◌+◌, ℕ, List, length, true, not, nat_lt, slice_index, drop, IfOk};
 ghost use Rattle.std.specs.List.{list_all};
 ghost use Rattle.meeting_patterns.specs.Pattern.{patterns_of};
 ghost use Rattle.packing_model.specs.Built.{packing};
 ghost use Rattle.packing_model.specs.Rising.{is_rising};
 ghost use Rattle.packing_model.specs.Cuts.{IsCutList, MakesCut, first_apart, first_clear_of};
+ghost use Rattle.packing_model.specs.RowMembers.{bit_in, AreMembers};
 
+use crate::members::{Bits, has_bit, members_of, met_by};
 use crate::model::Model as PackingModel;
 use std::alloc::{AllocError, Global};
 use std::marker::Model;
@@ -57,7 +59,7 @@ impl Cut {
         requires { IsCutList (length (patterns_of m.now)) patterns.now }
         ensures { MakesCut (packing m.now) patterns.now result }
     {
-        if let Some((first, second)) = first_apart(m, patterns) {
+        if let Some((first, second)) = first_apart(alloc, m, patterns)? {
             return Err(CutFault::NotClique { first, second });
         }
         let patterns = Items::from_slice(alloc, patterns)?;
@@ -73,8 +75,70 @@ impl Cut {
     }
 }
 
+// So many patterns are compared in pairs.
+const FEW: usize = 32;
+
 // The first two patterns that do not clash, in order of the first, then the second.
-fn first_apart(m: &PackingModel, patterns: &[u32]) -> Option<(u32, u32)>
+fn first_apart(
+    alloc: Global,
+    m: &PackingModel,
+    patterns: &[u32],
+) -> Result<Option<(u32, u32)>, AllocError>
+    requires { IsCutList (length (patterns_of m.now)) patterns.now }
+    ensures { IfOk result (λ found. found ≡ first_apart (packing m.now).clash patterns.now) }
+{
+    if patterns.len() <= FEW {
+        return Ok(first_apart_by_pairs(m, patterns));
+    }
+    let rows = members_of(alloc, m, patterns)?;
+    Ok(first_apart_by_rows(m, patterns, &rows))
+}
+
+// The same, by the base rows that two patterns share.
+fn first_apart_by_rows(m: &PackingModel, patterns: &[u32], rows: &[Bits]) -> Option<(u32, u32)>
+    requires list { IsCutList (length (patterns_of m.now)) patterns.now }
+    requires rows { AreMembers (packing m.now) patterns.now rows.now }
+    ensures { result ≡ first_apart (packing m.now).clash patterns.now }
+{
+    for (i, first) in patterns.iter().enumerate() {
+        if let Some(second) = first_unmet(m, patterns, rows, i) {
+            return Some((*first, second));
+        }
+    }
+    None
+}
+
+// The first of the later patterns that does not clash with the pattern at a place. Only those that share no
+// base row with it are compared.
+fn first_unmet(m: &PackingModel, patterns: &[u32], rows: &[Bits], at: usize) -> Option<u32>
+    requires at { at < length patterns.now }
+    requires list { IsCutList (length (patterns_of m.now)) patterns.now }
+    requires rows { AreMembers (packing m.now) patterns.now rows.now }
+    ensures { result ≡ first_clear_of (packing m.now).clash (slice_index patterns.now at) (drop (at + 1) patterns.now) }
+{
+    let pattern = patterns[at];
+    let met = met_by(rows, m.base_runs(pattern));
+    for other in at + 1..patterns.len() {
+        if is_clear_of(m, &met, pattern, patterns[other], other) {
+            return Some(patterns[other]);
+        }
+    }
+    None
+}
+
+// Whether two patterns do not clash, of which the second stands at the place.
+fn is_clear_of(m: &PackingModel, met: &Bits, pattern: u32, other: u32, at: usize) -> bool
+    requires pattern { pattern < length (patterns_of m.now) }
+    requires other { other < length (patterns_of m.now) }
+    requires at { at < 1000 }
+    requires met { bit_in met.now at ≡ 1 → (packing m.now).clash pattern other ≡ true }
+    ensures { result ≡ not ((packing m.now).clash pattern other) }
+{
+    !has_bit(met, at as u32) && !m.clash(pattern, other)
+}
+
+// The same, by pairs.
+fn first_apart_by_pairs(m: &PackingModel, patterns: &[u32]) -> Option<(u32, u32)>
     requires { list_all (λ p. nat_lt p (length (patterns_of m.now))) patterns.now ≡ true }
     ensures { result ≡ first_apart (packing m.now).clash patterns.now }
 {

@@ -2,13 +2,16 @@
 #![tactic(auto)]
 
 mod close;
+mod costs;
 mod cut;
 mod fixing;
 mod free;
 mod keys;
 mod laws;
 mod measured;
+mod members;
 mod model;
+mod node_marks;
 mod point;
 mod pool;
 mod row;

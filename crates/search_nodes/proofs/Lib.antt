@@ -4,3 +4,4 @@ pub mod FixingLaws
 pub mod RowLaws
 pub mod ChoiceLaws
 pub mod PointLaws
+pub mod MarkLaws

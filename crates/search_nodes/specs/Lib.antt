@@ -3,3 +3,4 @@ pub mod Points
 pub mod Leaves
 pub mod Choices
 pub mod SharedRows
+pub mod Marks

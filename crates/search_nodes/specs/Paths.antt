@@ -1,9 +1,10 @@
 -- The path to a node of a tree, and the fixing that it makes.
 use Rattle.std.specs.Prelude.{ℕ, ◌≡◌, ◌&&◌, Bool, true, Option, Some, None, List, [], ◌∷◌}
 use Rattle.duality.specs.Packing.{Packing}
-use Rattle.duality.specs.Tree.{can_branch, with_zero}
+use Rattle.duality.specs.Tree.{can_branch, with_zero, with_one}
 use Rattle.duality.specs.Walk.{Step, step_at, fixing_of}
 use Rattle.packing_model.specs.Nodes.{fixed_of}
+use Rattle.search_nodes.specs.Marks.{AreMarks}
 use Rattle.search_nodes.specs.declared.walk.Side.{Side}
 use Rattle.search_nodes.specs.declared.walk.Walk.{Walk}
 
@@ -24,6 +25,7 @@ is_path k (b ∷ path) = can_branch k (fixing_of path) b.pattern && is_path k pa
 pub record IsWalk (k : Packing) (walk : Walk) : Type 0 where
   pub fixing : fixed_of walk.fixing ≡ fixing_of (path_of walk.path)
   pub valid : is_path k (path_of walk.path) ≡ true
+  pub marks : AreMarks k walk.fixing walk.marks
 
 -- the path after a leaf; empty where the tree is at its end
 abbrev pub IsTurned : Option (List Step) → List Step → Type 0
@@ -35,3 +37,11 @@ pub record IsOutside (k : Packing) (p : ℕ) (walk : Walk) : Type 0 where
   pub fixing : fixed_of walk.fixing ≡ with_zero p (fixing_of (path_of walk.path))
   pub free : can_branch k (fixing_of (path_of walk.path)) p ≡ true
   pub valid : is_path k (path_of walk.path) ≡ true
+  pub marks : AreMarks k walk.fixing walk.marks
+
+-- the same with one more pattern taken
+pub record IsInside (k : Packing) (p : ℕ) (walk : Walk) : Type 0 where
+  pub fixing : fixed_of walk.fixing ≡ with_one p (fixing_of (path_of walk.path))
+  pub free : can_branch k (fixing_of (path_of walk.path)) p ≡ true
+  pub valid : is_path k (path_of walk.path) ≡ true
+  pub marks : AreMarks k walk.fixing walk.marks

@@ -4,6 +4,7 @@
 
 mod choices;
 mod laws;
+mod marks;
 mod walk;
 
 pub use choices::{measured_laws, weigh_choice};

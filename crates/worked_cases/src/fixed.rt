@@ -12,7 +12,7 @@ use crate::objective::SomePatterns;
 use crate::shape::closed_once;
 use duality::FLOOR_LEVEL;
 use node_bound::{Bounded, close_fixed, close_fixed_at, lowest_free};
-use packing_model::{At, Fixing, Leaf, Model, ObjectiveAt, Pool, RowName, is_free};
+use packing_model::{At, Fixing, Leaf, Model, ObjectiveAt, Pool, RowName};
 use problem_core::Choice;
 use search_nodes::{Walk, walk_laws, weigh_choice};
 use std::alloc::Global;
@@ -141,16 +141,16 @@ fn fix(model: &Model, walk: &mut Walk, pattern: u32, taken: bool) -> Result<(), 
     requires { IsWalk (packing model.now) walk.old }
     ensures { IfOk result (λ _. IsWalk (packing model.now) walk.new) }
 {
-    walk_laws();
     if pattern >= model.patterns().len() {
         return Err(Fail::new("no such pattern"));
     }
-    if !is_free(model, &walk.fixing, pattern) {
+    if !walk.is_free(model, pattern) {
         return Err(Fail::new("the pattern is not free"));
     }
     walk.branch(pattern)?;
     if taken {
         walk.turn()?;
+        walk.mark_rows(model)?;
     }
     Ok(())
 }

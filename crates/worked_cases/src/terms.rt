@@ -1,5 +1,6 @@
 use duality::{
-    Leaf, Objective, RowName, Run, Term, is_under, left_side, level_times, reduced_cost,
+    Leaf, Objective, RowName, RowSums, Run, Term, is_under, left_side, level_times, reduced_cost,
+    sum_rows,
 };
 use std::test::Fail;
 use values::Items;
@@ -66,7 +67,13 @@ fn one_term(rt: HostRuntime) -> Result<(), Fail> {
     })?;
     let leaf = Leaf { scale: 1, terms };
     let times = level_times(leaf.terms.as_slice());
-    let cost = reduced_cost(&Numbered, 2, &leaf, &times, &base, &[], 0);
+    let mut below = [0; 3];
+    sum_rows(leaf.terms.as_slice(), &mut below);
+    let sums = RowSums {
+        terms: leaf.terms.as_slice(),
+        below: &below,
+    };
+    let cost = reduced_cost(&Numbered, 2, &leaf, &times, &sums, &base, &[], 0);
     assert!(rt; cost == 0);
     let left = left_side(&Numbered, 2, &leaf, &times, &[1], &[], 0);
     assert!(rt; left == 2);

@@ -38,7 +38,7 @@ returns g c =
     let cost : to_z w128 (of_z w128 c.added-cost.result) ≡ total (times_of c.args.leaf.now.terms) (rows_in c.args.base.now ++ c.args.cuts.now) +ℤ level_sum c.args.leaf.now.terms (λ j. level_coefficient w j c.args.pattern) =
     cost_is c.priced_levels.result c.priced_cliques.result c.added-cost.result _ _ c.priced_levels.ensures.small c.priced_cliques.ensures.small c.added-cost.ensures
     (c.priced_levels.ensures.value ∙ one_pattern c.args.leaf.now.terms c.args.times.now w c.args.pattern c.requires.times)
-    (c.priced_cliques.ensures.value ∙ ap (λ ts. total (times_of ts) (rows_in c.args.base.now ++ c.args.cuts.now)) c.as_slice.ensures) in
+    (c.priced_cliques.ensures.value ∙ ap (λ ts. total (times_of ts) (rows_in c.args.base.now ++ c.args.cuts.now)) c.requires.terms) in
     finish c.lessened.result (to_z w128 (of_z w128 c.product-gain.result)) (to_z w128 (of_z w128 c.added-cost.result))
     (c.args.leaf.now.scale *ℤ g.O.Objective.weight c.args.objective.now c.args.level c.args.pattern)
     (total (times_of c.args.leaf.now.terms) (rows_in c.args.base.now ++ c.args.cuts.now) +ℤ level_sum c.args.leaf.now.terms (λ j. level_coefficient w j c.args.pattern))

@@ -1,0 +1,11 @@
+use Rattle.std.proofs.Common.{ℕ, ◌≡◌, ◌⊎◌, [], true, length}
+use Rattle.std.specs.Prelude.{slice_index_or}
+use Rattle.packing_model.specs.NodeMarks.{in_runs}
+use Rattle.packing_model.specs.RowMembers.{bit_in}
+use Rattle.packing_model.proofs.members.add_member.Given as goal
+
+abbrev pub invariant-loop-run : goal.invariant-loop-run
+invariant-loop-run l = record {
+  whole : length l.rows.items ≡ length l.initial.rows.items;
+  each : (r i : ℕ) → bit_in (slice_index_or l.rows.items r []) i ≡ 1 → (bit_in (slice_index_or l.initial.rows.items r []) i ≡ 1) ⊎ ((i ≡ l.j) × (in_runs l.runs r ≡ true));
+}
