@@ -1,22 +1,20 @@
 ghost use Rattle.std.specs.Prelude.{◌≡◌, ◌≤◌, ◌<◌, length};
 ghost use Rattle.std.proofs.Common.{get_or};
-ghost use Rattle.exact_simplex.specs.Ends.{Ends};
+ghost use Rattle.simplex_tableau.specs.Ends.{Ends};
 ghost use Rattle.exact_simplex.specs.Final.{Describes};
 ghost use Rattle.exact_simplex.specs.Force.{WaitsOrHolds, ForcesTo};
 ghost use Rattle.exact_simplex.specs.Progress.{IsProgress, IsTaskLists, size_of};
 ghost use Rattle.exact_simplex.specs.Rows.{AreForced, ForcesAll, LeadsTo, AscendsTo};
 ghost use Rattle.exact_simplex.specs.Start.{Starts};
 ghost use Rattle.exact_simplex.specs.Task.{IsTask};
-ghost use Rattle.exact_simplex.specs.declared.state.RowState.TheVariants as state;
+ghost use Rattle.simplex_tableau.specs.declared.state.RowState.TheVariants as state;
 
 use crate::drive::{Driven, drive};
-use crate::fault::Fault;
 use crate::force::{Blocked, force_row, row_of, set_state};
 use crate::progress::{Progress, Task};
-use crate::sparse::sign;
-use crate::state::RowState;
 use crate::task::{Lp, Plan, RowKind};
 use exact_num::{Arith, Fraction, Steps};
+use simplex_tableau::{Fault, RowState, sign};
 use std::alloc::Global;
 use std::cmp::Ordering;
 use std::sync::ledger::Ledger;

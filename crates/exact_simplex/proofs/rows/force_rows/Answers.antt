@@ -1,7 +1,7 @@
 use Rattle.std.proofs.Common.{◌∙◌, ap, sym, get_or, ◌<◌, length, subst}
 use Rattle.exact_simplex.specs.Task.{no_row}
 use Rattle.exact_simplex.specs.Rows.{AreForced}
-use Rattle.exact_simplex.proofs.InverseLaws.{get_or-any}
+use Rattle.simplex_tableau.proofs.InverseLaws.{get_or-any}
 use Rattle.exact_simplex.proofs.StuckLemmas.{ascended, blocked_all, counts_then}
 use Rattle.exact_simplex.proofs.rows.force_rows.Goals as goal
 

@@ -1,5 +1,5 @@
 use Rattle.std.proofs.Common.{◌<◌, sym, subst, take}
-use Rattle.exact_simplex.specs.Dense.{num}
+use Rattle.simplex_tableau.specs.Dense.{num}
 use Rattle.exact_simplex.specs.Empty.{ShowsEmptyFraction}
 use Rattle.exact_simplex.proofs.AnswerLemmas.{empty_same, num-take, forces_empty}
 use Rattle.exact_simplex.proofs.solve.solve.Goals as goal
