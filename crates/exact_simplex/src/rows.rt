@@ -73,7 +73,8 @@ fn ascend<A: Arith, L: Ledger>(
     requires within { progress.old.pivots ≤ limit }
     requires gain { gain < size_of task.now }
     requires waits { get_or progress.old.states.items gain state.Waiting ≡ state.Waiting }
-    ensures { Ends (A.wides arith.old) (A.wides arith.new) (AscendsTo A.Num.value task.now limit progress.old progress.new steps.old steps.new) result }
+    ensures ends { Ends (A.wides arith.old) (A.wides arith.new) (AscendsTo A.Num.value task.now limit progress.old progress.new steps.old steps.new) result }
+    ensures later { steps.old ≤ steps.new }
 {
     let mut y = row_of(alloc, arith, &progress.tableau.inverse, gain)?;
     match drive(
@@ -103,7 +104,8 @@ fn ascend_before<A: Arith, L: Ledger>(
     requires within { progress.old.pivots ≤ limit }
     requires gain { gain < size_of task.now }
     requires waits { get_or progress.old.states.items gain state.Waiting ≡ state.Waiting }
-    ensures { Ends (A.wides arith.old) (A.wides arith.new) (AscendsTo A.Num.value task.now limit progress.old progress.new steps.old steps.new) result }
+    ensures ends { Ends (A.wides arith.old) (A.wides arith.new) (AscendsTo A.Num.value task.now limit progress.old progress.new steps.old steps.new) result }
+    ensures later { steps.old ≤ steps.new }
 {
     match plan.ascent {
         None => Ok(false),
@@ -132,7 +134,8 @@ fn take_row<A: Arith, L: Ledger>(
     requires within { progress.old.pivots ≤ limit }
     requires row { row < size_of task.now }
     requires waits { WaitsOrHolds kind (get_or progress.old.states.items row state.Waiting) }
-    ensures { Ends (A.wides arith.old) (A.wides arith.new) (ForcesTo A.Num.value task.now row kind limit progress.old progress.new steps.old steps.new) result }
+    ensures ends { Ends (A.wides arith.old) (A.wides arith.new) (ForcesTo A.Num.value task.now row kind limit progress.old progress.new steps.old steps.new) result }
+    ensures later { steps.old ≤ steps.new }
 {
     match progress.states[row as usize] {
         RowState::Waiting => force_row(alloc, arith, steps, task, progress, row, kind, limit),
@@ -157,7 +160,8 @@ pub(crate) fn force_rows<A: Arith, L: Ledger>(
     requires progress { IsProgress A.Num.value task.now progress.old }
     requires within { progress.old.pivots ≤ limit }
     requires forced { AreForced lp.now progress.old.states.items 0 }
-    ensures { Ends (A.wides arith.old) (A.wides arith.new) (ForcesAll A.Num.value lp.now task.now limit progress.old progress.new steps.old steps.new) result }
+    ensures ends { Ends (A.wides arith.old) (A.wides arith.new) (ForcesAll A.Num.value lp.now task.now limit progress.old progress.new steps.old steps.new) result }
+    ensures later { steps.old ≤ steps.new }
 {
     let rows = lp.rows.as_slice();
     for i in 0..rows.len() {

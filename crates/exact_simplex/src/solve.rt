@@ -91,7 +91,8 @@ fn raise_gain<A: Arith, L: Ledger>(
     requires progress { IsProgress A.Num.value task.now progress.old }
     requires settled { AreSettled lp.now progress.old.states.items }
     requires within { progress.old.pivots ≤ limit }
-    ensures { Ends (A.wides arith.old) (A.wides arith.new) (ConcludesAfter lp.now progress.old.pivots steps.old steps.new) result }
+    ensures ends { Ends (A.wides arith.old) (A.wides arith.new) (ConcludesAfter lp.now progress.old.pivots steps.old steps.new) result }
+    ensures later { steps.old ≤ steps.new }
 {
     let row = lp.rows.len() as u32;
     let mut y = row_of(alloc, arith, &progress.tableau.inverse, row)?;
@@ -119,7 +120,8 @@ fn solve<A: Arith, L: Ledger>(
     steps: &mut Steps<L>,
 ) -> Result<LpAnswer, Fault>
     requires { IsTask lp.now }
-    ensures { Ends (A.wides arith.old) (A.wides arith.new) (Concludes lp.now steps.old steps.new) result }
+    ensures ends { Ends (A.wides arith.old) (A.wides arith.new) (Concludes lp.now steps.old steps.new) result }
+    ensures later { steps.old ≤ steps.new }
 {
     let task = build(alloc, arith, lp)?;
     let mut progress = start(alloc, arith, &task)?;
@@ -161,7 +163,8 @@ pub fn solve_lp<A: Arith, L: Ledger>(
     steps: &mut Steps<L>,
 ) -> Result<LpAnswer, Memory>
     requires { IsTask lp.now }
-    ensures { Answers lp.now (A.wides arith.old) (A.wides arith.new) steps.old steps.new result }
+    ensures answers { Answers lp.now (A.wides arith.old) (A.wides arith.new) steps.old steps.new result }
+    ensures later { steps.old ≤ steps.new }
 {
     let plan = Plan {
         leading: bounds_before(lp.rows.as_slice()),
@@ -179,7 +182,8 @@ pub fn solve_by_plan<A: Arith, L: Ledger>(
     steps: &mut Steps<L>,
 ) -> Result<LpAnswer, Memory>
     requires { IsTask lp.now }
-    ensures { Answers lp.now (A.wides arith.old) (A.wides arith.new) steps.old steps.new result }
+    ensures answers { Answers lp.now (A.wides arith.old) (A.wides arith.new) steps.old steps.new result }
+    ensures later { steps.old ≤ steps.new }
 {
     match solve(alloc, lp, plan, arith, steps) {
         Ok(answer) => Ok(answer),

@@ -1,4 +1,4 @@
-use Rattle.std.proofs.Common.{◌≡◌}
+use Rattle.std.proofs.Common.{◌≡◌, ◌≤◌}
 use Rattle.exact_simplex.specs.Force.{Counts}
 use Rattle.exact_simplex.specs.Progress.{IsProgress}
 use Rattle.exact_simplex.specs.Rows.{AreForced}
@@ -10,4 +10,5 @@ invariant-loop-i g l = record {
   progress : IsProgress g.A.Num.Fraction.value l.task l.progress;
   counts : Counts l.limit l.fn.progress l.progress l.fn.steps l.steps;
   forced : AreForced l.lp l.progress.states.items l.i;
+  later : l.fn.steps ≤ l.steps;
 }

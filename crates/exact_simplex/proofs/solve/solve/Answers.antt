@@ -12,4 +12,4 @@ empty-requires-clause-shows g c =
     let y = c.in-Some-Empty.y.items in
     subst (λ xs. ShowsEmptyFraction lp (num value (take k xs))) (sym c.deref.ensures.value)
     (empty_same lp (num value y) (num value (take k y)) (λ i l. num-take value k y i (subst (λ n. i < n) (sym c.len.ensures) l))
-    (forces_empty value lp c.in_ok-task.task c.limit_of-limit.result c.lead_rows.new.progress c.force_rows.new.progress c.args.steps.now c.force_rows.new.steps c.in_ok-force_rows.field-0 c.in-Some-Empty.field-0 c.in-Some-Empty.y c.in-Some-Empty.is c.in-Some-Empty.field-0-is c.in_ok-force_rows.ensures.1))
+    (forces_empty value lp c.in_ok-task.task c.limit_of-limit.result c.lead_rows.new.progress c.force_rows.new.progress c.args.steps.now c.force_rows.new.steps c.in_ok-force_rows.field-0 c.in-Some-Empty.field-0 c.in-Some-Empty.y c.in-Some-Empty.is c.in-Some-Empty.field-0-is c.in_ok-force_rows.ensures.ends.1))
