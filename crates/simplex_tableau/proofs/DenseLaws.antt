@@ -26,19 +26,19 @@ place-at m (f ∷ es) zero e h l is = rw is h.0
 place-at m (f ∷ es) (suc i) e h l is = place-at m es i e h.1 (omega (arith, l)) is
 
 -- one entry of the source was added
-pub added_more : {N : Type 0} (value : N → ℚ) (xs ys : List N) (factor : ℚ) (source : List (Entry N)) (k : ℕ) (e : Entry N) (old product sum : N)
+pub added_more : {N : Type 0} (value : N → ℚ) (xs ys : List N) (factor : ℚ) (source : List (Entry N)) (k : ℕ) (e : Entry N) (old sum : N)
     → k < length source → e ≡ get_or source k e → length ys ≡ length xs → e.place < length xs → old ≡ get_or ys e.place old
-    → value product ≡ factor *ℚ value e.number → value sum ≡ value old +ℚ value product
+    → value sum ≡ value old +ℚ factor *ℚ value e.number
     → ((p : ℕ) → p < length xs → num value ys p +ℚ factor *ℚ at value (drop k source) p ≡ num value xs p +ℚ factor *ℚ at value source p)
     → (p : ℕ) → p < length xs → num value (set ys e.place sum) p +ℚ factor *ℚ at value (drop (k + 1) source) p ≡ num value xs p +ℚ factor *ℚ at value source p
-added_more value xs ys factor source k e old product sum l is same here was times plus so p j =
+added_more value xs ys factor source k e old sum l is same here was plus so p j =
     let rest = at value (drop (k + 1) source) p in
     let split : at value (drop k source) p ≡ at_place e.place (value e.number) p +ℚ rest = at-drop value source k e p l is in
     let go : Dec (p ≡ e.place) → num value (set ys e.place sum) p +ℚ factor *ℚ rest ≡ num value ys p +ℚ factor *ℚ at value (drop k source) p = elim [
       | yes eq ↦
           let new : num value (set ys e.place sum) p ≡ num value ys p +ℚ factor *ℚ value e.number
           = ap (num value (set ys e.place sum)) eq ∙ num-set_same value ys e.place sum (omega arith) ∙ plus
-          ∙ ap₂ (λ a b. a +ℚ b) (sym (ap (num value ys) eq ∙ num-get value ys e.place old (omega arith) was)) times in
+          ∙ ap (λ a. a +ℚ factor *ℚ value e.number) (sym (ap (num value ys) eq ∙ num-get value ys e.place old (omega arith) was)) in
           ap (λ a. a +ℚ factor *ℚ rest) new ∙ +ℚ_assoc (num value ys p) (factor *ℚ value e.number) (factor *ℚ rest)
           ∙ ap (λ a. num value ys p +ℚ a) (sym (*ℚ-+ℚ factor (value e.number) rest) ∙ ap (λ a. factor *ℚ (a +ℚ rest)) (sym (ap (at_place e.place (value e.number)) eq ∙ at_place-same e.place (value e.number))) ∙ ap (λ a. factor *ℚ a) (sym split))
       | no ne ↦

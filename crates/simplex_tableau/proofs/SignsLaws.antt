@@ -1,12 +1,14 @@
 -- Laws of specs/Signs.
-use Rattle.std.proofs.Common.{◌≡◌, ◌≢◌, sym, subst, ℤ, pos, ◌<ℤ◌}
+use Rattle.std.proofs.Common.{◌≡◌, ◌≢◌, ◌∙◌, sym, subst, arith, ℤ, pos, ◌<ℤ◌}
+use Rattle.std.proofs.lemmas.Int.{ints}
 use Rattle.std.specs.declared.cmp.Ordering.{Ordering}
 use Rattle.std.specs.declared.cmp.Ordering.TheVariants.{Less, Equal, Greater}
 use Rattle.std.specs.Ordering.{MatchOrdering, int_cmp}
 use Rattle.std.specs.Cmp.{int_ranks}
 use Rattle.std.proofs.Math.IntN.{zero-*ℤ}
 use Rattle.exact_num.specs.Q.{ℚ}
-use Rattle.exact_num.specs.Ops.{zero_ℚ, times_one}
+use Rattle.exact_num.specs.Ops.{zero_ℚ, one_ℚ, one-over, times_one}
+use Rattle.exact_num.specs.Over.{over_same, over_self}
 use Rattle.exact_num.specs.Order.{◌<ℚ◌}
 use Rattle.exact_num.specs.Whole.{int_ℚ-zero, num-zero}
 use Rattle.simplex_tableau.specs.Signs.{HasSign}
@@ -30,3 +32,7 @@ sign_of_num q n o e is =
 -- the numerator of a number that is not 0
 pub num_some : (q : ℚ) → q ≢ zero_ℚ → q.num ≢ pos 0
 num_some q s e = s (num-zero q e)
+
+-- a number with the parts 1 and 1 is 1
+pub one_parts : (q : ℚ) (n d : ℤ) → n ≡ q.num → d ≡ q.den → n ≡ pos 1 → d ≡ pos 1 → q ≡ one_ℚ
+one_parts q n d e f one same = over_same q one_ℚ q.num (pos 1) q.den (pos 1) (over_self q) (one-over (pos 1) (omega (arith, ints))) (sym e ∙ one) (sym f ∙ same)

@@ -5,6 +5,7 @@ ghost use Rattle.simplex_tableau.specs.Sparse.{PlacesBelow, dot_with};
 ghost use Rattle.simplex_tableau.specs.Dense.{num, Added};
 
 use crate::fault::Fault;
+use crate::products::plus_times;
 use crate::sparse::Entry;
 use exact_num::Arith;
 use std::alloc::Global;
@@ -44,8 +45,7 @@ pub fn add_times<A: Arith>(
 {
     for entry in source {
         let place = entry.place as usize;
-        let product = arith.mul(factor, entry.number)?;
-        let sum = arith.add(x[place], product)?;
+        let sum = plus_times(arith, x[place], factor, entry.number)?;
         x[place] = sum;
     }
     Ok(())
@@ -62,8 +62,7 @@ pub fn price<A: Arith>(
 {
     let mut total = arith.from_int(0)?;
     for entry in column {
-        let product = arith.mul(y[entry.place as usize], entry.number)?;
-        let sum = arith.add(product, total)?;
+        let sum = plus_times(arith, total, y[entry.place as usize], entry.number)?;
         total = sum;
     }
     Ok(total)

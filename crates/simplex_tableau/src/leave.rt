@@ -19,6 +19,8 @@ pub struct Leaving<N> {
     pub step: N,
     /// The length of the step for the sides that break ties.
     pub tie: N,
+    /// Whether the slack of the driven row stands there.
+    pub driven: bool,
 }
 
 /// Whether a step along a column with this number comes to an end at a value of this state.
@@ -65,8 +67,32 @@ pub fn state_at(columns: usize, states: &[RowState], variable: usize) -> RowStat
     }
 }
 
-/// Whether one step is to be taken before another: the shorter one, of equal ones the shorter one for the
-/// sides that break ties, of equal ones that of the later variable.
+/// Whether a value of this state is that of the slack of the driven row.
+fn is_driven(state: RowState) -> bool {
+    match state {
+        RowState::Above | RowState::Below => true,
+        RowState::Waiting | RowState::AtLeast | RowState::Zero => false,
+    }
+}
+
+/// Whether one of two steps of one length is to be taken: not that of the driven row's slack, which so
+/// comes to 0 and stays where it can; else the shorter one for the sides that break ties, of equal ones
+/// that of the later variable.
+fn wins_tie<N: Fraction>(basis: &[usize], one: &Leaving<N>, other: &Leaving<N>) -> bool
+    requires one { one.now.place < length basis.now }
+    requires other { other.now.place < length basis.now }
+{
+    if one.driven != other.driven {
+        return other.driven;
+    }
+    match one.tie.cmp(&other.tie) {
+        Ordering::Less => true,
+        Ordering::Equal => basis[one.place as usize] > basis[other.place as usize],
+        Ordering::Greater => false,
+    }
+}
+
+/// Whether one step is to be taken before another: the shorter one, of equal ones the one that wins the tie.
 fn goes_before<N: Fraction>(basis: &[usize], one: &Leaving<N>, other: &Leaving<N>) -> bool
     requires one { one.now.place < length basis.now }
     requires other { other.now.place < length basis.now }
@@ -74,11 +100,7 @@ fn goes_before<N: Fraction>(basis: &[usize], one: &Leaving<N>, other: &Leaving<N
 {
     match one.step.cmp(&other.step) {
         Ordering::Less => true,
-        Ordering::Equal => match one.tie.cmp(&other.tie) {
-            Ordering::Less => true,
-            Ordering::Equal => basis[one.place as usize] > basis[other.place as usize],
-            Ordering::Greater => false,
-        },
+        Ordering::Equal => wins_tie(basis, one, other),
         Ordering::Greater => false,
     }
 }
@@ -110,6 +132,7 @@ fn weigh<A: Arith>(
         number: entry.number,
         step,
         tie,
+        driven: is_driven(state),
     };
     match best {
         None => Ok(Some(found)),

@@ -9,6 +9,7 @@ mod dense;
 mod fault;
 mod inverse;
 mod leave;
+mod products;
 mod sparse;
 mod state;
 
@@ -17,5 +18,6 @@ pub use dense::{add_times, append_number, price, repeated};
 pub use fault::Fault;
 pub use inverse::ftran;
 pub use leave::{Leaving, find_leaving, state_at};
+pub use products::{plus_times, times};
 pub use sparse::{Entry, number_at, sign};
 pub use state::RowState;

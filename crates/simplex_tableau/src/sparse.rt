@@ -5,6 +5,7 @@ ghost use Rattle.simplex_tableau.specs.Sparse.{Combined, Moves, Puts, MovesWith,
 ghost use Rattle.simplex_tableau.specs.declared.fault.Fault.TheVariants as fault;
 
 use crate::fault::Fault;
+use crate::products::times;
 use exact_num::{Arith, Fraction};
 use std::alloc::Global;
 use std::cmp::Ordering;
@@ -106,7 +107,7 @@ pub fn combine<A: Arith>(
     let mut i = 0;
     'merge: for entry in source {
         i = copy_before(&mut out, target, i, entry.place)?;
-        let number = arith.mul(factor, entry.number)?;
+        let number = times(arith, factor, entry.number)?;
         i = put_next(arith, &mut out, target, i, entry.place, number)?;
     }
     match out.extend_from_slice(&target[i..]) {

@@ -32,9 +32,9 @@ loop-entry-preserved g c =
     let value = g.A.Num.Fraction.value in
     let k : c.entry-item.result.place < length c.args.x.now = place-at (length c.args.x.now) c.args.source.now c.loop-entry.entry-index c.entry-item.result c.requires (omega arith) c.entry-item.is in
     record {
-      wides = c.in_ok-sum.ensures.kept ∙ c.in_ok-product.ensures.kept ∙ c.loop-entry.invariant.wides;
-      same = added_more value c.args.x.now c.loop-entry.x (value c.args.factor) c.args.source.now c.loop-entry.entry-index c.entry-item.result c.index-x-place.result c.in_ok-product.product c.in_ok-sum.sum
-          (omega arith) c.entry-item.is (omega arith) k c.index-x-place.is c.in_ok-product.ensures.value c.in_ok-sum.ensures.value c.loop-entry.invariant.same;
+      wides = c.in_ok-sum.ensures.0 ∙ c.loop-entry.invariant.wides;
+      same = added_more value c.args.x.now c.loop-entry.x (value c.args.factor) c.args.source.now c.loop-entry.entry-index c.entry-item.result c.index-x-place.result c.in_ok-sum.sum
+          (omega arith) c.entry-item.is (omega arith) k c.index-x-place.is c.in_ok-sum.ensures.1 c.loop-entry.invariant.same;
     }
 
 pub returns : goal.returns

@@ -1,5 +1,5 @@
-use Rattle.std.proofs.Common.{rules, arith, ◌∙◌, sym, ap, length, ◌<◌}
-use Rattle.exact_num.specs.Ops.{◌+ℚ◌, ◌*ℚ◌, zero-+ℚ}
+use Rattle.std.proofs.Common.{rules, arith, refl, ◌∙◌, sym, ap, length, ◌<◌}
+use Rattle.exact_num.specs.Ops.{◌+ℚ◌, ◌*ℚ◌, zero-+ℚ, +ℚ_comm}
 use Rattle.exact_num.specs.Whole.{int_ℚ-zero}
 use Rattle.simplex_tableau.specs.Sparse.{dot_with}
 use Rattle.simplex_tableau.specs.Dense.{num}
@@ -26,11 +26,12 @@ pub loop-entry-preserved : goal.loop-entry-preserved
 loop-entry-preserved g c =
     let value = g.A.Num.Fraction.value in
     let k : c.entry-item.result.place < length c.args.y.now = place-at (length c.args.y.now) c.args.column.now c.loop-entry.entry-index c.entry-item.result c.requires (omega arith) c.entry-item.is in
+    let f = num value c.args.y.now in
+    let e = c.entry-item.result in
     record {
-      wides = c.in_ok-sum.ensures.kept ∙ c.in_ok-product.ensures.kept ∙ c.loop-entry.invariant.wides;
-      sum = dot_more value (num value c.args.y.now) c.args.column.now c.loop-entry.entry-index c.entry-item.result (value c.loop-entry.total) (value c.in_ok-product.product) (value c.in_ok-sum.sum) (omega arith) c.entry-item.is
-          (c.in_ok-product.ensures.value ∙ ap (λ a. a *ℚ value c.entry-item.result.number) (sym (num-get value c.args.y.now c.entry-item.result.place c.index-y-entry.result k c.index-y-entry.is)))
-          c.in_ok-sum.ensures.value ∙ c.loop-entry.invariant.sum;
+      wides = c.in_ok-sum.ensures.0 ∙ c.loop-entry.invariant.wides;
+      sum = dot_more value f c.args.column.now c.loop-entry.entry-index e (value c.loop-entry.total) (f e.place *ℚ value e.number) (value c.in_ok-sum.sum) (omega arith) c.entry-item.is refl
+          (c.in_ok-sum.ensures.1 ∙ ap (λ a. value c.loop-entry.total +ℚ a *ℚ value e.number) (sym (num-get value c.args.y.now e.place c.index-y-entry.result k c.index-y-entry.is)) ∙ +ℚ_comm (value c.loop-entry.total) (f e.place *ℚ value e.number)) ∙ c.loop-entry.invariant.sum;
     }
 
 pub returns : goal.returns

@@ -18,9 +18,9 @@ merge-preserved g c =
     let gains = c.in_ok-i-2.ensures in
     record {
       within = gains.1.within;
-      wides = gains.0 ∙ times.kept ∙ c.merge.invariant.wides;
+      wides = gains.0 ∙ times.0 ∙ c.merge.invariant.wides;
       same = λ p. gathered_more value c.merge.out.items c.copy_before.new.out.items c.put_next.new.out.items c.args.target.now c.merge.i c.in_ok-i.i c.in_ok-i-2.i (value c.args.factor) c.args.source.now c.merge.entry-index
-          c.entry-item.result (value c.in_ok-number.number) c.in_ok-i.ensures gains.1 (omega arith) c.entry-item.is times.value p ∙ c.merge.invariant.same p;
+          c.entry-item.result (value c.in_ok-number.number) c.in_ok-i.ensures gains.1 (omega arith) c.entry-item.is times.1 p ∙ c.merge.invariant.same p;
       meet = λ m h k. gathers_more value m c.merge.out.items c.copy_before.new.out.items c.put_next.new.out.items c.args.target.now c.merge.i c.in_ok-i.i c.in_ok-i-2.i c.args.source.now c.merge.entry-index
           c.entry-item.result (value c.in_ok-number.number) c.in_ok-i.ensures gains.1 (omega arith) c.entry-item.is (c.merge.invariant.meet m h k);
     }
