@@ -67,6 +67,5 @@ pub(crate) fn start<A: Arith>(
         tableau,
         states,
         pivots: 0,
-        next: 0,
     })
 }
