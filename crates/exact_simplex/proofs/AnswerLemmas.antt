@@ -6,20 +6,20 @@ use Rattle.exact_num.specs.Ops.{zero_ℚ, neg_ℚ, one_ℚ, ◌+ℚ◌, ◌*ℚ�
 use Rattle.exact_num.specs.Sums.{sum_ℚ, sum_ℚ-same}
 use Rattle.exact_num.specs.Order.{◌≤ℚ◌, ◌<ℚ◌}
 use Rattle.exact_num.specs.Whole.{int_ℚ}
-use Rattle.exact_simplex.specs.declared.sparse.Entry.{Entry}
+use Rattle.simplex_tableau.specs.declared.sparse.Entry.{Entry}
 use Rattle.exact_simplex.specs.declared.progress.Task.{Task}
 use Rattle.exact_simplex.specs.declared.progress.Progress.{Progress}
 use Rattle.exact_simplex.specs.declared.task.Lp.{Lp}
 use Rattle.exact_simplex.specs.declared.drive.Driven.{Driven}
 use Rattle.exact_simplex.specs.declared.drive.Driven.TheVariants as driven
-use Rattle.exact_simplex.specs.Dense.{num, Added}
-use Rattle.exact_simplex.proofs.DenseLaws.{num-get}
+use Rattle.simplex_tableau.specs.Dense.{num, Added}
+use Rattle.simplex_tableau.proofs.DenseLaws.{num-get}
 use Rattle.exact_simplex.specs.Enter.{IsExtreme}
-use Rattle.exact_simplex.specs.Sparse.{at}
+use Rattle.simplex_tableau.specs.Sparse.{at}
 use Rattle.exact_simplex.specs.declared.force.Blocked.{Blocked}
 use Rattle.exact_simplex.specs.declared.force.Blocked.TheVariants as blocked
 use Rattle.exact_simplex.specs.Rows.{ForcesAll}
-use Rattle.exact_simplex.specs.declared.state.RowState.TheVariants as state
+use Rattle.simplex_tableau.specs.declared.state.RowState.TheVariants as state
 use Rattle.exact_simplex.specs.Drive.{Keeps, IsUnbounded, EndsAt}
 use Rattle.exact_simplex.specs.Empty.{ShowsEmptyFraction}
 use Rattle.exact_simplex.specs.Final.{Describes, AreSettled}
@@ -28,10 +28,10 @@ use Rattle.exact_simplex.specs.Point.{variable_value}
 use Rattle.exact_simplex.specs.Progress.{size_of, IsProgress, IsRow}
 use Rattle.exact_simplex.specs.Ray.{IsRayFraction, IsDirection}
 use Rattle.exact_simplex.specs.Scaled.{IsOptimum, MeetsFraction, IsMultiplierFraction}
-use Rattle.exact_simplex.specs.Tableau.{basis_of, point_of}
+use Rattle.simplex_tableau.specs.Tableau.{basis_of, point_of}
 use Rattle.exact_simplex.specs.Task.{int_at, cell, row_at}
 use Rattle.exact_simplex.specs.Values.{AreValues}
-use Rattle.exact_simplex.proofs.ListLemmas.{get_or-end, get_or-front, num-end, num-front}
+use Rattle.simplex_tableau.proofs.ListLemmas.{get_or-end, get_or-front, num-end, num-front}
 use Rattle.exact_simplex.proofs.RayLemmas.{ray_shows, ray_same}
 
 -- ---- the same numbers

@@ -5,10 +5,10 @@ use Rattle.numbers.specs.Sums.{picked}
 use Rattle.exact_num.specs.Q.{ℚ}
 use Rattle.exact_num.specs.Ops.{zero_ℚ, ◌+ℚ◌, +ℚ_assoc, +ℚ-zero}
 use Rattle.exact_num.specs.Whole.{int_ℚ, int_ℚ-zero, int_ℚ-+ℤ}
-use Rattle.exact_simplex.specs.declared.sparse.Entry.{Entry}
-use Rattle.exact_simplex.specs.Sparse.{at, at_place, PlacesBelow}
-use Rattle.exact_simplex.proofs.SparseLaws.{at-push, at_place-add, at_place-zero, at_place-same, at_place-other}
-use Rattle.exact_simplex.specs.Inverse.{inv_of, list_at}
+use Rattle.simplex_tableau.specs.declared.sparse.Entry.{Entry}
+use Rattle.simplex_tableau.specs.Sparse.{at, at_place, PlacesBelow}
+use Rattle.simplex_tableau.proofs.SparseLaws.{at-push, at_place-add, at_place-zero, at_place-same, at_place-other}
+use Rattle.simplex_tableau.specs.Inverse.{inv_of, list_at}
 use Rattle.exact_simplex.specs.Task.{coefficient, ColumnsBelow}
 use Rattle.exact_simplex.specs.Build.{AddsEntry, AddsRow, RowSoFar}
 

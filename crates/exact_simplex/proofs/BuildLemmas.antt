@@ -6,19 +6,19 @@ use Rattle.numbers.specs.Sums.{picked}
 use Rattle.exact_num.specs.Q.{ℚ}
 use Rattle.exact_num.specs.Ops.{zero_ℚ, one_ℚ, neg_ℚ, ◌+ℚ◌, +ℚ-zero, zero-+ℚ}
 use Rattle.exact_num.specs.Whole.{int_ℚ, int_ℚ-zero}
-use Rattle.exact_simplex.specs.declared.sparse.Entry.{Entry}
+use Rattle.simplex_tableau.specs.declared.sparse.Entry.{Entry}
 use Rattle.exact_simplex.specs.declared.progress.Task.{Task}
 use Rattle.exact_simplex.specs.declared.task.Lp.{Lp}
 use Rattle.exact_simplex.specs.declared.task.LpRow.{LpRow}
-use Rattle.exact_simplex.specs.Sparse.{at, at_place, PlacesBelow}
-use Rattle.exact_simplex.proofs.SparseLaws.{at_place-same, at_place-other}
-use Rattle.exact_simplex.specs.Dense.{num}
-use Rattle.exact_simplex.specs.Inverse.{inv_of, list_at}
+use Rattle.simplex_tableau.specs.Sparse.{at, at_place, PlacesBelow}
+use Rattle.simplex_tableau.proofs.SparseLaws.{at_place-same, at_place-other}
+use Rattle.simplex_tableau.specs.Dense.{num}
+use Rattle.simplex_tableau.specs.Inverse.{inv_of, list_at}
 use Rattle.exact_simplex.specs.Progress.{size_of, column_of}
 use Rattle.exact_simplex.specs.Task.{coefficient, ColumnsBelow, IsTask, no_row, int_at, row_at}
 use Rattle.exact_simplex.specs.Build.{RowsBelow, AllBelow, AddsEntry, AddsRow, AreEmpty, HasUnits, unit_entry, AddsFirst, AddsGainsTo, FillsColumns, AreFirstSides, AreSides}
 use Rattle.exact_simplex.specs.Final.{Describes}
-use Rattle.exact_simplex.proofs.ListLemmas.{get_or-end, get_or-front, num-end, num-front}
+use Rattle.simplex_tableau.proofs.ListLemmas.{get_or-end, get_or-front, num-end, num-front}
 
 -- ---- one row or gain more
 

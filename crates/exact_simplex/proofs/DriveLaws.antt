@@ -6,24 +6,24 @@ use Rattle.std.proofs.Math.Decide.{ℕ_discrete}
 use Rattle.exact_num.specs.Ops.{zero_ℚ, one_ℚ, ◌*ℚ◌}
 use Rattle.exact_num.specs.Order.{zero-<ℚ-one, <ℚ-not-≡}
 use Rattle.exact_num.specs.Sums.{sum_ℚ-same}
-use Rattle.exact_simplex.proofs.BasisLaws.{one_place}
-use Rattle.exact_simplex.proofs.SimplexLaws.{state_of-slack}
-use Rattle.exact_simplex.specs.Dense.{num}
-use Rattle.exact_simplex.specs.declared.sparse.Entry.{Entry}
+use Rattle.simplex_tableau.proofs.BasisLaws.{one_place}
+use Rattle.simplex_tableau.proofs.SimplexLaws.{state_of-slack}
+use Rattle.simplex_tableau.specs.Dense.{num}
+use Rattle.simplex_tableau.specs.declared.sparse.Entry.{Entry}
 use Rattle.exact_simplex.specs.declared.progress.Task.{Task}
 use Rattle.exact_simplex.specs.declared.progress.Progress.{Progress}
-use Rattle.exact_simplex.specs.Sparse.{at}
-use Rattle.exact_simplex.proofs.SparseLaws.{sum-at}
-use Rattle.exact_simplex.specs.Inverse.{inv_of, list_at, Makes}
-use Rattle.exact_simplex.specs.States.{state_of, Limits}
-use Rattle.exact_simplex.specs.Tableau.{basis_of, inverse_of, point_of}
-use Rattle.exact_simplex.specs.Leave.{state_there, FindsLeaving}
+use Rattle.simplex_tableau.specs.Sparse.{at}
+use Rattle.simplex_tableau.proofs.SparseLaws.{sum-at}
+use Rattle.simplex_tableau.specs.Inverse.{inv_of, list_at, Makes}
+use Rattle.simplex_tableau.specs.States.{state_of, Limits}
+use Rattle.simplex_tableau.specs.Tableau.{basis_of, inverse_of, point_of}
+use Rattle.simplex_tableau.specs.Leave.{state_there, FindsLeaving}
 use Rattle.exact_simplex.specs.Enter.{Helps, Chooses, product}
-use Rattle.exact_simplex.specs.declared.leave.Leaving.{Leaving}
-use Rattle.exact_simplex.specs.declared.state.RowState.{RowState}
+use Rattle.simplex_tableau.specs.declared.leave.Leaving.{Leaving}
+use Rattle.simplex_tableau.specs.declared.state.RowState.{RowState}
 use Rattle.exact_simplex.specs.Progress.{size_of, column_of, side_of, IsTaskLists, IsProgress, IsRow, Advances}
 use Rattle.exact_simplex.proofs.ProgressLaws.{made_is}
-use Rattle.exact_simplex.specs.declared.state.RowState.TheVariants as state
+use Rattle.simplex_tableau.specs.declared.state.RowState.TheVariants as state
 use Rattle.exact_simplex.specs.Drive.{IsNowhere, IsUnbounded, Keeps}
 
 pub keeps_none : {N : Type 0} (value : N → ℚ) (task : Task N) (limit : ℕ) (p : Progress N) (steps : ℕ) → IsProgress value task p → p.pivots ≤ limit → Keeps value task limit p p steps steps

@@ -4,9 +4,9 @@ use Rattle.exact_num.specs.Q.{ℚ}
 use Rattle.exact_num.specs.Ops.{zero_ℚ}
 use Rattle.exact_num.specs.Order.{◌≤ℚ◌, ◌<ℚ◌, <ℚ-≤ℚ, <ℚ-not-≤ℚ, ≤ℚ_refl}
 use Rattle.exact_simplex.specs.declared.progress.Task.{Task}
-use Rattle.exact_simplex.specs.States.{state_of}
-use Rattle.exact_simplex.specs.declared.state.RowState.{RowState}
-use Rattle.exact_simplex.specs.declared.state.RowState.TheVariants as state
+use Rattle.simplex_tableau.specs.States.{state_of}
+use Rattle.simplex_tableau.specs.declared.state.RowState.{RowState}
+use Rattle.simplex_tableau.specs.declared.state.RowState.TheVariants as state
 use Rattle.exact_simplex.specs.Enter.{Chooses, Helping}
 
 pub helping_less : (up : Bool) (q : ℚ) → q <ℚ zero_ℚ → Helping up q up

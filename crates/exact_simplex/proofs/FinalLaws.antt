@@ -5,18 +5,19 @@ use Rattle.exact_num.specs.Ops.{zero_ℚ, one_ℚ, neg_ℚ, ◌+ℚ◌, ◌*ℚ�
 use Rattle.exact_num.specs.Sums.{sum_ℚ, sum_ℚ-same, sum_ℚ-more}
 use Rattle.exact_num.specs.Order.{◌≤ℚ◌, from_difference, zero-<ℚ-one, <ℚ-not-≡}
 use Rattle.exact_num.specs.Whole.{int_ℚ}
-use Rattle.exact_simplex.specs.Pivot.{dot}
-use Rattle.exact_simplex.proofs.SparseLaws.{sum-at}
-use Rattle.exact_simplex.specs.Dense.{num}
-use Rattle.exact_simplex.specs.Inverse.{list_at}
-use Rattle.exact_simplex.proofs.BasisLaws.{one_place}
+use Rattle.simplex_tableau.specs.Pivot.{dot}
+use Rattle.simplex_tableau.proofs.SparseLaws.{sum-at}
+use Rattle.simplex_tableau.specs.Dense.{num}
+use Rattle.simplex_tableau.specs.Inverse.{list_at}
+use Rattle.simplex_tableau.proofs.BasisLaws.{one_place}
 use Rattle.exact_simplex.specs.Point.{variable_value}
 use Rattle.exact_simplex.proofs.PointLaws.{row_of_point, variable_value-nonneg, variable_value-zero, variable_value-one}
-use Rattle.exact_simplex.specs.States.{Okay, state_of, in_force}
-use Rattle.exact_simplex.proofs.SimplexLaws.{state_of-column, state_of-slack}
+use Rattle.simplex_tableau.specs.States.{Okay, state_of}
+use Rattle.exact_simplex.specs.InForce.{in_force}
+use Rattle.simplex_tableau.proofs.SimplexLaws.{state_of-column, state_of-slack}
 use Rattle.exact_simplex.specs.Enter.{IsExtreme, product}
 use Rattle.exact_simplex.proofs.OptimumLaws.{not_helps, dot_slack, row_value, row_at_own, below_side, meets_side, gain_is}
-use Rattle.exact_simplex.specs.Tableau.{basis_of, inverse_of, point_of}
+use Rattle.simplex_tableau.specs.Tableau.{basis_of, inverse_of, point_of}
 use Rattle.exact_simplex.specs.Progress.{size_of, column_of, side_of, IsTaskLists, IsProgress, IsRow}
 use Rattle.exact_simplex.specs.Scaled.{IsOptimum, MeetsFraction, IsMultiplierFraction}
 use Rattle.exact_simplex.specs.Task.{int_at, cell, row_at}
@@ -25,8 +26,8 @@ use Rattle.exact_simplex.specs.declared.progress.Progress.{Progress}
 use Rattle.exact_simplex.specs.declared.task.Lp.{Lp}
 use Rattle.exact_simplex.specs.declared.task.RowKind.{RowKind}
 use Rattle.exact_simplex.specs.declared.task.RowKind.TheVariants as kind
-use Rattle.exact_simplex.specs.declared.state.RowState.{RowState}
-use Rattle.exact_simplex.specs.declared.state.RowState.TheVariants as state
+use Rattle.simplex_tableau.specs.declared.state.RowState.{RowState}
+use Rattle.simplex_tableau.specs.declared.state.RowState.TheVariants as state
 use Rattle.exact_simplex.specs.Final.{AreSettled, Describes}
 
 pub product_is : {N : Type 0} (value : N → ℚ) (task : Task N) (y : List N) (v : ℕ) → IsTaskLists task → v < task.columns + size_of task → product value task y v ≡ dot (num value y) (column_of value task v) (size_of task)

@@ -4,30 +4,31 @@ use Rattle.std.proofs.Math.Decide.{ℕ_discrete}
 use Rattle.exact_num.specs.Q.{ℚ}
 use Rattle.exact_num.specs.Ops.{zero_ℚ, one_ℚ, neg_ℚ, ◌*ℚ◌, neg-*ℚ, one-*ℚ}
 use Rattle.exact_num.specs.Order.{◌≤ℚ◌, ≤ℚ_refl}
-use Rattle.exact_simplex.specs.declared.sparse.Entry.{Entry}
+use Rattle.simplex_tableau.specs.declared.sparse.Entry.{Entry}
 use Rattle.exact_simplex.specs.declared.drive.Driven.{Driven}
 use Rattle.exact_simplex.specs.declared.drive.Driven.TheVariants as driven
 use Rattle.exact_simplex.specs.declared.force.Blocked.{Blocked}
 use Rattle.exact_simplex.specs.declared.force.Blocked.TheVariants as blocked
 use Rattle.exact_simplex.specs.declared.progress.Task.{Task}
 use Rattle.exact_simplex.specs.declared.progress.Progress.{Progress}
-use Rattle.exact_simplex.specs.declared.state.RowState.{RowState}
-use Rattle.exact_simplex.specs.declared.state.RowState.TheVariants as state
+use Rattle.simplex_tableau.specs.declared.state.RowState.{RowState}
+use Rattle.simplex_tableau.specs.declared.state.RowState.TheVariants as state
 use Rattle.exact_simplex.specs.declared.task.RowKind.{RowKind}
 use Rattle.exact_simplex.specs.declared.task.RowKind.TheVariants as kind
-use Rattle.exact_simplex.specs.Sparse.{at, NumberAt}
-use Rattle.exact_simplex.specs.Dense.{num}
-use Rattle.exact_simplex.proofs.DenseLaws.{num-get}
-use Rattle.exact_simplex.specs.Inverse.{inv_of, list_at}
+use Rattle.simplex_tableau.specs.Sparse.{at, NumberAt}
+use Rattle.simplex_tableau.specs.Dense.{num}
+use Rattle.simplex_tableau.proofs.DenseLaws.{num-get}
+use Rattle.simplex_tableau.specs.Inverse.{inv_of, list_at}
 use Rattle.exact_simplex.specs.Enter.{Helps, IsExtreme}
-use Rattle.exact_simplex.specs.States.{Okay, Limits, state_of, driven_state_of, in_force}
-use Rattle.exact_simplex.proofs.SimplexLaws.{state_of-slack}
-use Rattle.exact_simplex.specs.Tableau.{basis_of, point_of}
+use Rattle.simplex_tableau.specs.States.{Okay, Limits, state_of, driven_state_of}
+use Rattle.exact_simplex.specs.InForce.{in_force}
+use Rattle.simplex_tableau.proofs.SimplexLaws.{state_of-slack}
+use Rattle.simplex_tableau.specs.Tableau.{basis_of, point_of}
 use Rattle.exact_simplex.specs.Progress.{size_of, IsTaskLists, IsProgress, IsRow}
 use Rattle.exact_simplex.specs.Drive.{Keeps, IsThere, EndsAt}
 use Rattle.exact_simplex.proofs.DriveLaws.{only_place, unbounded_blocked}
 use Rattle.exact_simplex.specs.Force.{IsRowOf, SuitsAt, Settles, Counts, IsInForce, SignedTo, IsStuck, SettlesOrShows, ForcesTo}
-use Rattle.exact_simplex.proofs.ListLemmas.{num-end, num-front, set_twice}
+use Rattle.simplex_tableau.proofs.ListLemmas.{num-end, num-front, set_twice}
 
 -- ---- a row with all its numbers
 

@@ -5,11 +5,11 @@ use Rattle.exact_num.specs.Q.{ℚ}
 use Rattle.exact_num.specs.Ops.{zero_ℚ, one_ℚ, neg_ℚ, ◌+ℚ◌, ◌*ℚ◌, +ℚ_assoc, +ℚ_comm, +ℚ-zero, zero-+ℚ, +ℚ-neg, *ℚ-one, one-*ℚ, *ℚ-zero, neg-*ℚ}
 use Rattle.exact_num.specs.Sums.{sum_ℚ, sum_ℚ-same, sum_ℚ-scale, sum_ℚ-one}
 use Rattle.exact_num.specs.Order.{◌≤ℚ◌, ≤ℚ_refl, <ℚ_or_≤ℚ, <ℚ-≤ℚ, zero-<ℚ-one, +ℚ-≤ℚ}
-use Rattle.exact_simplex.specs.Pivot.{dot}
-use Rattle.exact_simplex.proofs.PivotLaws.{dual_value}
-use Rattle.exact_simplex.specs.Basis.{IsBasis}
+use Rattle.simplex_tableau.specs.Pivot.{dot}
+use Rattle.simplex_tableau.proofs.PivotLaws.{dual_value}
+use Rattle.simplex_tableau.specs.Basis.{IsBasis}
 use Rattle.exact_simplex.specs.Point.{HasSlacks}
-use Rattle.exact_simplex.proofs.StatesLaws.{neg_up, neg-zero, times-neg}
+use Rattle.simplex_tableau.proofs.StatesLaws.{neg_up, neg-zero, times-neg}
 use Rattle.exact_simplex.specs.Enter.{Helps}
 use Rattle.exact_simplex.specs.Optimum.{signed}
 

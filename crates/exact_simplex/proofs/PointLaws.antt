@@ -5,8 +5,8 @@ use Rattle.exact_num.specs.Q.{ℚ}
 use Rattle.exact_num.specs.Ops.{zero_ℚ, ◌+ℚ◌, ◌*ℚ◌, +ℚ_assoc, +ℚ-zero, *ℚ_comm, *ℚ-zero, *ℚ-one}
 use Rattle.exact_num.specs.Sums.{sum_ℚ, sum_ℚ-same, sum_ℚ-scale, sum_ℚ-zero, sum_ℚ-one, sum_ℚ-exchanged}
 use Rattle.exact_num.specs.Order.{◌≤ℚ◌, ≤ℚ_refl, sum_ℚ-≤ℚ}
-use Rattle.exact_simplex.specs.Sparse.{at_place}
-use Rattle.exact_simplex.proofs.SparseLaws.{at_place-same, at_place-other}
+use Rattle.simplex_tableau.specs.Sparse.{at_place}
+use Rattle.simplex_tableau.proofs.SparseLaws.{at_place-same, at_place-other}
 use Rattle.exact_simplex.specs.Point.{HasSlacks, variable_value}
 
 -- a sum over the places is a sum over the variables

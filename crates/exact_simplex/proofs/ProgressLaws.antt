@@ -3,22 +3,22 @@ use Rattle.std.proofs.Common.{ℕ, ◌≡◌, ◌≢◌, ◌+◌, ◌<◌, sym, 
 use Rattle.std.proofs.Math.Decide.{ℕ_discrete}
 use Rattle.exact_num.specs.Q.{ℚ}
 use Rattle.exact_num.specs.Ops.{zero_ℚ, neg_ℚ, ◌+ℚ◌, ◌*ℚ◌, +ℚ-zero, *ℚ_comm, *ℚ-zero}
-use Rattle.exact_simplex.specs.declared.sparse.Entry.{Entry}
-use Rattle.exact_simplex.specs.declared.basis.Tableau.{Tableau}
+use Rattle.simplex_tableau.specs.declared.sparse.Entry.{Entry}
+use Rattle.simplex_tableau.specs.declared.basis.Tableau.{Tableau}
 use Rattle.exact_simplex.specs.declared.progress.Task.{Task}
 use Rattle.exact_simplex.specs.declared.progress.Progress.{Progress}
-use Rattle.exact_simplex.specs.Sparse.{at, PlacesBelow, NumberAt}
-use Rattle.exact_simplex.proofs.SparseLaws.{sum-at}
-use Rattle.exact_simplex.specs.Dense.{num}
-use Rattle.exact_simplex.specs.Inverse.{inv_of, list_at, Makes}
-use Rattle.exact_simplex.specs.Pivot.{IsPivoted, dot}
-use Rattle.exact_simplex.proofs.BasisLaws.{pivot_keeps}
-use Rattle.exact_simplex.specs.States.{state_of}
-use Rattle.exact_simplex.proofs.StatesLaws.{neg_neg, limits_some}
-use Rattle.exact_simplex.specs.Simplex.{IsFeasible, Leaves}
-use Rattle.exact_simplex.proofs.SimplexLaws.{feasible_step}
-use Rattle.exact_simplex.specs.Tableau.{PivotsTo, basis_of, inverse_of, point_of}
-use Rattle.exact_simplex.specs.declared.state.RowState.TheVariants as state
+use Rattle.simplex_tableau.specs.Sparse.{at, PlacesBelow, NumberAt}
+use Rattle.simplex_tableau.proofs.SparseLaws.{sum-at}
+use Rattle.simplex_tableau.specs.Dense.{num}
+use Rattle.simplex_tableau.specs.Inverse.{inv_of, list_at, Makes}
+use Rattle.simplex_tableau.specs.Pivot.{IsPivoted, dot}
+use Rattle.simplex_tableau.proofs.BasisLaws.{pivot_keeps}
+use Rattle.simplex_tableau.specs.States.{state_of}
+use Rattle.simplex_tableau.proofs.StatesLaws.{neg_neg, limits_some}
+use Rattle.simplex_tableau.specs.Simplex.{IsFeasible, Leaves}
+use Rattle.simplex_tableau.proofs.SimplexLaws.{feasible_step}
+use Rattle.simplex_tableau.specs.Tableau.{PivotsTo, basis_of, inverse_of, point_of}
+use Rattle.simplex_tableau.specs.declared.state.RowState.TheVariants as state
 use Rattle.exact_simplex.specs.Progress.{IsProgress, IsRow, IsTaskLists, TurnsRow, column_of, side_of, size_of}
 
 -- the inverse times a column, by its definition

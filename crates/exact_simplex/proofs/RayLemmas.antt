@@ -13,29 +13,30 @@ use Rattle.exact_num.specs.Whole.{int_ℚ, int_ℚ-zero, int_ℚ-≤ℤ, int_ℚ
 use Rattle.exact_num.specs.Multiples.{least_den, least_den-positive}
 use Rattle.exact_num.specs.Denominators.{num_over, nums_over, common_fits, IsCommon}
 use Rattle.exact_num.specs.Work.{below}
-use Rattle.exact_simplex.specs.declared.sparse.Entry.{Entry}
+use Rattle.simplex_tableau.specs.declared.sparse.Entry.{Entry}
 use Rattle.exact_simplex.specs.declared.progress.Task.{Task}
 use Rattle.exact_simplex.specs.declared.progress.Progress.{Progress}
 use Rattle.exact_simplex.specs.declared.task.Lp.{Lp}
 use Rattle.exact_simplex.specs.declared.task.RowKind.{RowKind}
 use Rattle.exact_simplex.specs.declared.task.RowKind.TheVariants as kind
-use Rattle.exact_simplex.specs.declared.state.RowState.{RowState}
-use Rattle.exact_simplex.specs.declared.state.RowState.TheVariants as state
-use Rattle.exact_simplex.specs.Sparse.{at}
-use Rattle.exact_simplex.proofs.SparseLaws.{sum-at}
-use Rattle.exact_simplex.specs.Dense.{num}
-use Rattle.exact_simplex.specs.Inverse.{inv_of, list_at}
-use Rattle.exact_simplex.proofs.DualityLaws.{ftran_sums}
+use Rattle.simplex_tableau.specs.declared.state.RowState.{RowState}
+use Rattle.simplex_tableau.specs.declared.state.RowState.TheVariants as state
+use Rattle.simplex_tableau.specs.Sparse.{at}
+use Rattle.simplex_tableau.proofs.SparseLaws.{sum-at}
+use Rattle.simplex_tableau.specs.Dense.{num}
+use Rattle.simplex_tableau.specs.Inverse.{inv_of, list_at}
+use Rattle.simplex_tableau.proofs.DualityLaws.{ftran_sums}
 use Rattle.exact_simplex.specs.Point.{HasSlacks, variable_value}
 use Rattle.exact_simplex.proofs.PointLaws.{sum_variable_value, sum-split, variable_value-nonneg, variable_value-zero, variable_value-one}
-use Rattle.exact_simplex.specs.States.{Limits, state_of, in_force}
-use Rattle.exact_simplex.proofs.StatesLaws.{neg_up, neg-zero, neg-positive}
-use Rattle.exact_simplex.proofs.SimplexLaws.{state_of-column, state_of-slack}
+use Rattle.simplex_tableau.specs.States.{Limits, state_of}
+use Rattle.exact_simplex.specs.InForce.{in_force}
+use Rattle.simplex_tableau.proofs.StatesLaws.{neg_up, neg-zero, neg-positive}
+use Rattle.simplex_tableau.proofs.SimplexLaws.{state_of-column, state_of-slack}
 use Rattle.exact_simplex.specs.Enter.{product}
 use Rattle.exact_simplex.specs.Drive.{IsUnbounded}
 use Rattle.exact_simplex.proofs.DriveLaws.{only_place}
 use Rattle.exact_simplex.proofs.OptimumLaws.{below_side, meets_side, gain_is}
-use Rattle.exact_simplex.specs.Tableau.{basis_of, inverse_of}
+use Rattle.simplex_tableau.specs.Tableau.{basis_of, inverse_of}
 use Rattle.exact_simplex.specs.Progress.{size_of, column_of, IsProgress, IsRow}
 use Rattle.exact_simplex.proofs.ProgressLaws.{made_is}
 use Rattle.exact_simplex.specs.Final.{Describes, AreSettled}

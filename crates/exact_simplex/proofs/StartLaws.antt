@@ -3,13 +3,13 @@ use Rattle.std.proofs.Common.{ℕ, ◌≡◌, ◌≢◌, ◌+◌, ◌<◌, sym, 
 use Rattle.exact_num.specs.Q.{ℚ}
 use Rattle.exact_num.specs.Ops.{zero_ℚ, one_ℚ, ◌*ℚ◌, *ℚ-one, *ℚ-zero, zero-*ℚ}
 use Rattle.exact_num.specs.Sums.{sum_ℚ-one}
-use Rattle.exact_simplex.specs.Basis.{IsBasis}
+use Rattle.simplex_tableau.specs.Basis.{IsBasis}
 use Rattle.exact_simplex.specs.Point.{HasSlacks}
-use Rattle.exact_simplex.specs.States.{Okay, state_of}
-use Rattle.exact_simplex.specs.Simplex.{IsFeasible}
-use Rattle.exact_simplex.proofs.SimplexLaws.{state_of-slack}
-use Rattle.exact_simplex.specs.declared.state.RowState.{RowState}
-use Rattle.exact_simplex.specs.declared.state.RowState.TheVariants as state
+use Rattle.simplex_tableau.specs.States.{Okay, state_of}
+use Rattle.simplex_tableau.specs.Simplex.{IsFeasible}
+use Rattle.simplex_tableau.proofs.SimplexLaws.{state_of-slack}
+use Rattle.simplex_tableau.specs.declared.state.RowState.{RowState}
+use Rattle.simplex_tableau.specs.declared.state.RowState.TheVariants as state
 use Rattle.exact_simplex.specs.Start.{IsUnit}
 
 module _ (size n : ℕ) (column : ℕ → ℕ → ℚ) (side : ℕ → ℚ) (basis : ℕ → ℕ) (inv : ℕ → ℕ → ℚ) (x : ℕ → ℚ)

@@ -6,18 +6,18 @@ use Rattle.exact_num.specs.Q.{ℚ}
 use Rattle.exact_num.specs.Ops.{one_ℚ}
 use Rattle.exact_simplex.specs.declared.progress.Task.{Task}
 use Rattle.exact_simplex.specs.declared.progress.Progress.{Progress}
-use Rattle.exact_simplex.specs.declared.state.RowState.TheVariants as state
-use Rattle.exact_simplex.specs.Sparse.{at, at_place, Rises}
-use Rattle.exact_simplex.proofs.SparseLaws.{at_place-same, at_place-other}
-use Rattle.exact_simplex.specs.Dense.{num}
-use Rattle.exact_simplex.specs.Inverse.{list_at}
+use Rattle.simplex_tableau.specs.declared.state.RowState.TheVariants as state
+use Rattle.simplex_tableau.specs.Sparse.{at, at_place, Rises}
+use Rattle.simplex_tableau.proofs.SparseLaws.{at_place-same, at_place-other}
+use Rattle.simplex_tableau.specs.Dense.{num}
+use Rattle.simplex_tableau.specs.Inverse.{list_at}
 use Rattle.exact_simplex.specs.Build.{HasUnits}
 use Rattle.exact_simplex.specs.Point.{HasSlacks}
 use Rattle.exact_simplex.specs.Start.{AreSlacks, Starts, IsUnit}
 use Rattle.exact_simplex.proofs.StartLaws.{start_basis, start_feasible}
-use Rattle.exact_simplex.specs.Tableau.{basis_of, inverse_of, point_of}
+use Rattle.simplex_tableau.specs.Tableau.{basis_of, inverse_of, point_of}
 use Rattle.exact_simplex.specs.Progress.{size_of, column_of, side_of}
-use Rattle.exact_simplex.proofs.ListLemmas.{get_or-end, get_or-front}
+use Rattle.simplex_tableau.proofs.ListLemmas.{get_or-end, get_or-front}
 use Rattle.exact_simplex.proofs.BuildLemmas.{unit_number}
 
 pub slacks_more : (first i : ℕ) (basis : List ℕ) (v : ℕ) → v ≡ first + i → AreSlacks first i basis → AreSlacks first (i + 1) (basis ++ v ∷ [])

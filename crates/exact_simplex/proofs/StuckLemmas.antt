@@ -6,15 +6,16 @@ use Rattle.exact_num.specs.Ops.{zero_ℚ, neg_ℚ, ◌+ℚ◌, ◌*ℚ◌, +ℚ-
 use Rattle.exact_num.specs.Sums.{sum_ℚ, sum_ℚ-same}
 use Rattle.exact_num.specs.Order.{◌≤ℚ◌, ◌<ℚ◌, ≤ℚ-<ℚ}
 use Rattle.exact_num.specs.Whole.{int_ℚ}
-use Rattle.exact_simplex.specs.Pivot.{dot}
-use Rattle.exact_simplex.specs.Dense.{num}
-use Rattle.exact_simplex.specs.States.{Okay, driven_state_of, state_of, in_force}
-use Rattle.exact_simplex.proofs.StatesLaws.{neg-≤ℚ, neg-zero, neg-some}
-use Rattle.exact_simplex.proofs.SimplexLaws.{state_of-column, state_of-slack}
+use Rattle.simplex_tableau.specs.Pivot.{dot}
+use Rattle.simplex_tableau.specs.Dense.{num}
+use Rattle.simplex_tableau.specs.States.{Okay, driven_state_of, state_of}
+use Rattle.exact_simplex.specs.InForce.{in_force}
+use Rattle.simplex_tableau.proofs.StatesLaws.{neg-≤ℚ, neg-zero, neg-some}
+use Rattle.simplex_tableau.proofs.SimplexLaws.{state_of-column, state_of-slack}
 use Rattle.exact_simplex.specs.Enter.{Helps}
 use Rattle.exact_simplex.specs.Optimum.{signed}
 use Rattle.exact_simplex.proofs.OptimumLaws.{signed-zero, signed_dot, not_helps, row_value, row_at_slack, row_sign}
-use Rattle.exact_simplex.specs.Tableau.{basis_of, inverse_of, point_of}
+use Rattle.simplex_tableau.specs.Tableau.{basis_of, inverse_of, point_of}
 use Rattle.exact_simplex.specs.Progress.{size_of, column_of, side_of}
 use Rattle.exact_simplex.specs.Force.{Counts, GoesFor, IsStuck, ShowsNone, OthersKept, ForcesTo}
 use Rattle.exact_simplex.specs.declared.force.Blocked.{Blocked}
@@ -30,7 +31,7 @@ use Rattle.exact_simplex.specs.declared.progress.Progress.{Progress}
 use Rattle.exact_simplex.specs.declared.task.Lp.{Lp}
 use Rattle.exact_simplex.specs.declared.task.RowKind.{RowKind}
 use Rattle.exact_simplex.specs.declared.task.RowKind.TheVariants as kind
-use Rattle.exact_simplex.specs.declared.state.RowState.TheVariants as state
+use Rattle.simplex_tableau.specs.declared.state.RowState.TheVariants as state
 
 -- a row that bounds its sum is in force, or its slack stands at its own place
 pub record AreAtOwnPlaces {N : Type 0} (lp : Lp) (task : Task N) (r : ℕ) (up : Bool) (p : Progress N) : Type 0 where

@@ -5,10 +5,10 @@ use Rattle.std.proofs.Math.Decide.{ℕ_discrete}
 use Rattle.exact_num.specs.Q.{ℚ}
 use Rattle.exact_num.specs.Ops.{zero_ℚ, ◌+ℚ◌, +ℚ-zero}
 use Rattle.exact_num.specs.Sums.{sum_ℚ-more}
-use Rattle.exact_simplex.specs.Sparse.{at_place}
-use Rattle.exact_simplex.proofs.SparseLaws.{at_place-same, at_place-other}
-use Rattle.exact_simplex.specs.Dense.{num}
-use Rattle.exact_simplex.proofs.DenseLaws.{num-get, num-set_same, num-set_other}
+use Rattle.simplex_tableau.specs.Sparse.{at_place}
+use Rattle.simplex_tableau.proofs.SparseLaws.{at_place-same, at_place-other}
+use Rattle.simplex_tableau.specs.Dense.{num}
+use Rattle.simplex_tableau.proofs.DenseLaws.{num-get, num-set_same, num-set_other}
 use Rattle.exact_simplex.specs.Values.{AddsValue, AreValuesTo}
 
 -- a number added where its variable is a column

@@ -1,14 +1,14 @@
 -- A direction in fractions that keeps each row, with a positive gain.
 use Rattle.std.specs.Prelude.{ℕ, ◌≡◌, ◌<◌, ◌+◌, length, List}
 use Rattle.exact_num.specs.Ops.{one_ℚ, neg_ℚ}
-use Rattle.exact_simplex.specs.declared.sparse.Entry.{Entry}
+use Rattle.simplex_tableau.specs.declared.sparse.Entry.{Entry}
 use Rattle.exact_simplex.specs.declared.progress.Task.{Task}
 use Rattle.exact_simplex.specs.declared.progress.Progress.{Progress}
-use Rattle.exact_simplex.specs.Dense.{num}
+use Rattle.simplex_tableau.specs.Dense.{num}
 use Rattle.exact_simplex.specs.Point.{variable_value}
 use Rattle.exact_simplex.specs.Progress.{size_of}
-use Rattle.exact_simplex.specs.Sparse.{at}
-use Rattle.exact_simplex.specs.Tableau.{basis_of}
+use Rattle.simplex_tableau.specs.Sparse.{at}
+use Rattle.simplex_tableau.specs.Tableau.{basis_of}
 use Rattle.exact_num.specs.Q.{ℚ}
 use Rattle.exact_num.specs.Ops.{zero_ℚ, ◌*ℚ◌}
 use Rattle.exact_num.specs.Order.{◌≤ℚ◌, ◌<ℚ◌}

@@ -6,16 +6,16 @@ use Rattle.exact_simplex.specs.declared.force.Blocked.{Blocked}
 use Rattle.exact_simplex.specs.declared.force.Blocked.TheVariants as blocked
 use Rattle.exact_simplex.specs.declared.progress.Task.{Task}
 use Rattle.exact_simplex.specs.declared.progress.Progress.{Progress}
-use Rattle.exact_simplex.specs.declared.state.RowState.{RowState}
-use Rattle.exact_simplex.specs.declared.state.RowState.TheVariants as state
+use Rattle.simplex_tableau.specs.declared.state.RowState.{RowState}
+use Rattle.simplex_tableau.specs.declared.state.RowState.TheVariants as state
 use Rattle.exact_simplex.specs.declared.task.Lp.{Lp}
 use Rattle.exact_simplex.specs.declared.task.RowKind.{RowKind}
-use Rattle.exact_simplex.specs.Dense.{num}
+use Rattle.simplex_tableau.specs.Dense.{num}
 use Rattle.exact_simplex.specs.Empty.{ShowsEmptyFraction}
 use Rattle.exact_simplex.specs.Final.{AreSettled}
 use Rattle.exact_simplex.specs.Force.{Counts, WaitsOrHolds}
 use Rattle.exact_simplex.specs.Progress.{size_of, IsProgress}
-use Rattle.exact_simplex.specs.States.{in_force}
+use Rattle.exact_simplex.specs.InForce.{in_force}
 use Rattle.exact_simplex.specs.Task.{row_at}
 
 -- the first rows are in force, the others wait or are in force too

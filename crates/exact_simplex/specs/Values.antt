@@ -3,9 +3,9 @@ use Rattle.std.specs.Prelude.{ℕ, ◌≡◌, ◌<◌, List, length}
 use Rattle.std.proofs.Common.{get_or}
 use Rattle.exact_num.specs.Q.{ℚ}
 use Rattle.exact_num.specs.Ops.{◌+ℚ◌}
-use Rattle.exact_simplex.specs.Dense.{num}
+use Rattle.simplex_tableau.specs.Dense.{num}
 use Rattle.exact_simplex.specs.Point.{variable_value}
-use Rattle.exact_simplex.specs.Sparse.{at_place}
+use Rattle.simplex_tableau.specs.Sparse.{at_place}
 
 -- a number was added to the value of a variable, where that is one of the columns
 pub record AddsValue {N : Type 0} (value : N → ℚ) (old : List N) (variable : ℕ) (x : ℚ) (new : List N) : Type 0 where

@@ -1,10 +1,9 @@
 ghost use Rattle.std.specs.Prelude.{◌≤◌, length};
-ghost use Rattle.exact_simplex.specs.Ends.{Ends};
+ghost use Rattle.simplex_tableau.specs.Ends.{Ends};
 ghost use Rattle.exact_simplex.specs.Values.{AddsValue, AreValues};
 
-use crate::dense::repeated;
-use crate::fault::Fault;
 use exact_num::Arith;
+use simplex_tableau::{Fault, repeated};
 use std::alloc::Global;
 
 /// Adds a number to the value of a variable, where that is one of the columns.

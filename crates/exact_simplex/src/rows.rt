@@ -1,22 +1,22 @@
-ghost use Rattle.std.specs.Prelude.{◌≡◌, ◌≤◌, ◌<◌, length};
+ghost use Rattle.std.specs.Prelude.{◌≡◌, ◌≤◌, ◌<◌, length, IfErr};
+ghost use Rattle.simplex_tableau.specs.declared.fault.Fault.TheVariants as fault;
 ghost use Rattle.std.proofs.Common.{get_or};
-ghost use Rattle.exact_simplex.specs.Ends.{Ends};
+ghost use Rattle.simplex_tableau.specs.Ends.{Ends};
 ghost use Rattle.exact_simplex.specs.Final.{Describes};
 ghost use Rattle.exact_simplex.specs.Force.{WaitsOrHolds, ForcesTo};
 ghost use Rattle.exact_simplex.specs.Progress.{IsProgress, IsTaskLists, size_of};
 ghost use Rattle.exact_simplex.specs.Rows.{AreForced, ForcesAll, LeadsTo, AscendsTo};
 ghost use Rattle.exact_simplex.specs.Start.{Starts};
 ghost use Rattle.exact_simplex.specs.Task.{IsTask};
-ghost use Rattle.exact_simplex.specs.declared.state.RowState.TheVariants as state;
+ghost use Rattle.simplex_tableau.specs.declared.state.RowState.TheVariants as state;
 
 use crate::drive::{Driven, drive};
-use crate::fault::Fault;
 use crate::force::{Blocked, force_row, row_of, set_state};
+use crate::pricing::{Pricing, freeze};
 use crate::progress::{Progress, Task};
-use crate::sparse::sign;
-use crate::state::RowState;
-use crate::task::{Lp, Plan, RowKind};
+use crate::task::{Lp, LpRow, Plan, RowKind};
 use exact_num::{Arith, Fraction, Steps};
+use simplex_tableau::{Fault, RowState, sign};
 use std::alloc::Global;
 use std::cmp::Ordering;
 use std::sync::ledger::Ledger;
@@ -67,6 +67,7 @@ fn ascend<A: Arith, L: Ledger>(
     steps: &mut Steps<L>,
     task: &Task<A::Num>,
     progress: &mut Progress<A::Num>,
+    pricing: &mut Pricing,
     gain: u32,
     limit: u64,
 ) -> Result<bool, Fault>
@@ -80,10 +81,13 @@ fn ascend<A: Arith, L: Ledger>(
 {
     let mut y = row_of(alloc, arith, &progress.tableau.inverse, gain)?;
     match drive(
-        alloc, arith, steps, task, progress, &mut y, gain, true, limit,
+        alloc, arith, steps, task, progress, pricing, &mut y, gain, true, limit,
     )? {
         Driven::Left => Ok(false),
-        Driven::Stuck => Ok(false),
+        Driven::Stuck => {
+            freeze(alloc, arith, task, &y, pricing)?;
+            Ok(false)
+        }
         Driven::Unbounded { .. } => Ok(false),
         Driven::Stalled => Ok(true),
     }
@@ -96,6 +100,7 @@ fn ascend_before<A: Arith, L: Ledger>(
     steps: &mut Steps<L>,
     task: &Task<A::Num>,
     progress: &mut Progress<A::Num>,
+    pricing: &mut Pricing,
     plan: Plan,
     row: u32,
     gain: u32,
@@ -113,10 +118,33 @@ fn ascend_before<A: Arith, L: Ledger>(
         None => Ok(false),
         Some(before) => {
             if before == row {
-                return ascend(alloc, arith, steps, task, progress, gain, limit);
+                return ascend(alloc, arith, steps, task, progress, pricing, gain, limit);
             }
             Ok(false)
         }
+    }
+}
+
+/// Prices the columns of a row before all others while it is driven, where it bounds its sum and stands
+/// behind the first ascent.
+fn prefer_own(
+    alloc: Global,
+    pricing: &mut Pricing,
+    plan: Plan,
+    row: u32,
+    lp_row: &LpRow,
+) -> Result<(), Fault>
+    ensures err { IfErr result (λ e. e ≡ fault.Memory) }
+{
+    match (plan.ascent, lp_row.kind) {
+        (Some(before), RowKind::AtMost) => {
+            if row >= before {
+                return pricing.prefer(alloc, lp_row.entries.as_slice());
+            }
+            pricing.prefer(alloc, &[])
+        }
+        (Some(_), RowKind::Equal) => pricing.prefer(alloc, &[]),
+        (None, _) => Ok(()),
     }
 }
 
@@ -127,20 +155,35 @@ fn take_row<A: Arith, L: Ledger>(
     steps: &mut Steps<L>,
     task: &Task<A::Num>,
     progress: &mut Progress<A::Num>,
+    pricing: &mut Pricing,
+    plan: Plan,
     row: u32,
-    kind: RowKind,
+    lp_row: &LpRow,
     limit: u64,
 ) -> Result<Option<Blocked<A::Num>>, Fault>
     requires task { IsTaskLists task.now }
     requires progress { IsProgress A.Num.value task.now progress.old }
     requires within { progress.old.pivots ≤ limit }
     requires row { row < size_of task.now }
-    requires waits { WaitsOrHolds kind (get_or progress.old.states.items row state.Waiting) }
-    ensures ends { Ends (A.wides arith.old) (A.wides arith.new) (ForcesTo A.Num.value task.now row kind limit progress.old progress.new steps.old steps.new) result }
+    requires waits { WaitsOrHolds lp_row.now.kind (get_or progress.old.states.items row state.Waiting) }
+    ensures ends { Ends (A.wides arith.old) (A.wides arith.new) (ForcesTo A.Num.value task.now row lp_row.now.kind limit progress.old progress.new steps.old steps.new) result }
     ensures later { steps.old ≤ steps.new }
 {
     match progress.states[row as usize] {
-        RowState::Waiting => force_row(alloc, arith, steps, task, progress, row, kind, limit),
+        RowState::Waiting => {
+            prefer_own(alloc, pricing, plan, row, lp_row)?;
+            force_row(
+                alloc,
+                arith,
+                steps,
+                task,
+                progress,
+                pricing,
+                row,
+                lp_row.kind,
+                limit,
+            )
+        }
         RowState::Above | RowState::Below | RowState::AtLeast | RowState::Zero => Ok(None),
     }
 }
@@ -155,6 +198,7 @@ pub(crate) fn force_rows<A: Arith, L: Ledger>(
     plan: Plan,
     task: &Task<A::Num>,
     progress: &mut Progress<A::Num>,
+    pricing: &mut Pricing,
     limit: u64,
 ) -> Result<Option<Blocked<A::Num>>, Fault>
     requires task { IsTask lp.now }
@@ -167,15 +211,14 @@ pub(crate) fn force_rows<A: Arith, L: Ledger>(
 {
     let rows = lp.rows.as_slice();
     for i in 0..rows.len() {
-        let kind = rows[i].kind;
         let gain = rows.len() as u32;
         if ascend_before(
-            alloc, arith, steps, task, progress, plan, i as u32, gain, limit,
+            alloc, arith, steps, task, progress, pricing, plan, i as u32, gain, limit,
         )? {
             return Ok(Some(Blocked::Stalled));
         }
         if let Some(blocked) = take_row(
-            alloc, arith, steps, task, progress, i as u32, kind, limit,
+            alloc, arith, steps, task, progress, pricing, plan, i as u32, &rows[i], limit,
         )? {
             return Ok(Some(blocked));
         }

@@ -1,9 +1,9 @@
 ghost use Rattle.std.specs.Prelude.{◌≡◌, ◌≤◌, length, true};
 ghost use Rattle.exact_simplex.specs.Enter.{IsExtreme};
 ghost use Rattle.exact_simplex.specs.Ray.{IsDirection};
-ghost use Rattle.exact_simplex.specs.Sparse.{PlacesBelow};
+ghost use Rattle.simplex_tableau.specs.Sparse.{PlacesBelow};
 ghost use Rattle.exact_simplex.specs.Answer.{Answers, AnswersBest, Concludes, ConcludesAfter};
-ghost use Rattle.exact_simplex.specs.Ends.{Ends};
+ghost use Rattle.simplex_tableau.specs.Ends.{Ends};
 ghost use Rattle.exact_simplex.specs.Final.{Describes, AreSettled};
 ghost use Rattle.exact_simplex.specs.Progress.{IsProgress, IsRow, size_of};
 ghost use Rattle.exact_simplex.specs.Task.{IsTask, pivot_limit};
@@ -11,16 +11,15 @@ ghost use Rattle.exact_simplex.specs.Task.{IsTask, pivot_limit};
 use crate::answer::{best, empty, ray};
 use crate::build::build;
 use crate::column_values::values_of_columns;
-use crate::dense::{add_times, append_number, repeated};
 use crate::drive::{Driven, drive};
-use crate::fault::Fault;
 use crate::force::{Blocked, row_of};
+use crate::pricing::Pricing;
 use crate::progress::{Progress, Task};
 use crate::rows::{force_rows, lead_rows};
-use crate::sparse::Entry;
 use crate::start::start;
 use crate::task::{Lp, LpAnswer, LpRow, Plan, RowKind};
 use exact_num::{Arith, Memory, Steps};
+use simplex_tableau::{Entry, Fault, add_times, append_number, repeated};
 use std::alloc::Global;
 use std::sync::ledger::Ledger;
 
@@ -85,6 +84,7 @@ fn raise_gain<A: Arith, L: Ledger>(
     lp: &Lp,
     task: &Task<A::Num>,
     progress: &mut Progress<A::Num>,
+    pricing: &mut Pricing,
     limit: u64,
 ) -> Result<LpAnswer, Fault>
     requires task { IsTask lp.now }
@@ -99,7 +99,7 @@ fn raise_gain<A: Arith, L: Ledger>(
     let row = lp.rows.len() as u32;
     let mut y = row_of(alloc, arith, &progress.tableau.inverse, row)?;
     match drive(
-        alloc, arith, steps, task, progress, &mut y, row, true, limit,
+        alloc, arith, steps, task, progress, pricing, &mut y, row, true, limit,
     )? {
         Driven::Left => unreachable!(),
         Driven::Stuck => best_point(alloc, arith, lp, task, progress, &y),
@@ -129,8 +129,31 @@ fn solve<A: Arith, L: Ledger>(
     let mut progress = start(alloc, arith, &task)?;
     let limit = limit_of(lp);
     lead_rows(lp, &task, &mut progress, plan.leading);
-    match force_rows(alloc, arith, steps, lp, plan, &task, &mut progress, limit)? {
-        None => raise_gain(alloc, arith, steps, lp, &task, &mut progress, limit),
+    let mut pricing = Pricing::new(alloc);
+    match force_rows(
+        alloc,
+        arith,
+        steps,
+        lp,
+        plan,
+        &task,
+        &mut progress,
+        &mut pricing,
+        limit,
+    )? {
+        None => {
+            pricing.release(alloc, plan.ascent.is_none());
+            raise_gain(
+                alloc,
+                arith,
+                steps,
+                lp,
+                &task,
+                &mut progress,
+                &mut pricing,
+                limit,
+            )
+        }
         Some(Blocked::Empty(y)) => empty(alloc, arith, lp, &y[..lp.rows.len()]),
         Some(Blocked::Stalled) => Ok(LpAnswer::Stalled {
             pivots: progress.pivots,

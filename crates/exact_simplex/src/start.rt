@@ -1,17 +1,14 @@
 ghost use Rattle.std.specs.Prelude.{◌≡◌, ◌≤◌, ◌<◌, ◌+◌, ◌^◌, length, IfOk, IfErr};
-ghost use Rattle.exact_simplex.specs.Ends.{Ends};
+ghost use Rattle.simplex_tableau.specs.Ends.{Ends};
 ghost use Rattle.exact_simplex.specs.Point.{HasSlacks};
 ghost use Rattle.exact_simplex.specs.Progress.{column_of, size_of};
 ghost use Rattle.exact_simplex.specs.Start.{AreSlacks, Starts};
-ghost use Rattle.exact_simplex.specs.declared.fault.Fault.TheVariants as fault;
+ghost use Rattle.simplex_tableau.specs.declared.fault.Fault.TheVariants as fault;
 
-use crate::basis::Tableau;
 use crate::build::append_units;
-use crate::dense::{append_number, repeated};
-use crate::fault::Fault;
 use crate::progress::{Progress, Task};
-use crate::state::RowState;
 use exact_num::Arith;
+use simplex_tableau::{Fault, RowState, Tableau, append_number, repeated};
 use std::alloc::Global;
 
 /// The slacks of the rows, the first of which is variable `first`.
@@ -70,6 +67,5 @@ pub(crate) fn start<A: Arith>(
         tableau,
         states,
         pivots: 0,
-        next: 0,
     })
 }

@@ -3,7 +3,7 @@ use Rattle.std.specs.Int.{w64, w128}
 use Rattle.std.proofs.Math.IntN.{+ℤ_idl}
 use Rattle.exact_num.specs.Ops.{neg_ℚ}
 use Rattle.exact_num.specs.Whole.{int_ℚ, int_ℚ-neg}
-use Rattle.exact_simplex.proofs.InverseLaws.{get_or-any}
+use Rattle.simplex_tableau.proofs.InverseLaws.{get_or-any}
 use Rattle.exact_simplex.specs.Build.{AddsEntry}
 use Rattle.exact_simplex.proofs.BuildLaws.{adds_entry}
 use Rattle.exact_simplex.proofs.build.add_gain.Goals as goal

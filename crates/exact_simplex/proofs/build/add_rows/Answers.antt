@@ -1,5 +1,5 @@
 use Rattle.std.proofs.Common.{◌∙◌, ap}
-use Rattle.exact_simplex.proofs.InverseLaws.{get_or-any}
+use Rattle.simplex_tableau.proofs.InverseLaws.{get_or-any}
 use Rattle.exact_simplex.specs.Task.{no_row}
 use Rattle.exact_simplex.proofs.BuildLemmas.{rows_more}
 use Rattle.exact_simplex.proofs.build.add_rows.Goals as goal

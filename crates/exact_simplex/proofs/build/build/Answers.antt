@@ -1,6 +1,6 @@
 use Rattle.std.proofs.Common.{◌∙◌, ◌+◌, ap, subst, refl, length}
 use Rattle.exact_num.specs.Whole.{int_ℚ-one}
-use Rattle.exact_simplex.proofs.TableauLaws.{written}
+use Rattle.simplex_tableau.proofs.TableauLaws.{written}
 use Rattle.exact_simplex.specs.Build.{HasUnits, FillsColumns, AreSides}
 use Rattle.exact_simplex.proofs.BuildLemmas.{describes_from}
 use Rattle.exact_simplex.proofs.build.build.Goals as goal

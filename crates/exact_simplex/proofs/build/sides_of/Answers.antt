@@ -1,7 +1,7 @@
 use Rattle.std.proofs.Common.{rules, arith, ◌∙◌, ◌+◌, ◌≡◌, sym, ap, subst, SFits, to_z-of_z}
 use Rattle.std.specs.Int.{w64, w128}
 use Rattle.exact_num.specs.Whole.{int_ℚ, int_ℚ-zero}
-use Rattle.exact_simplex.proofs.InverseLaws.{get_or-any}
+use Rattle.simplex_tableau.proofs.InverseLaws.{get_or-any}
 use Rattle.exact_simplex.specs.Task.{no_row}
 use Rattle.exact_simplex.specs.Build.{AreFirstSides, AreSides}
 use Rattle.exact_simplex.proofs.BuildLemmas.{sides_more, sides_end}

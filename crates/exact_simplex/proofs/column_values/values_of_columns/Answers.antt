@@ -1,6 +1,6 @@
 use Rattle.std.proofs.Common.{◌∙◌, sym, ap, subst, refl, arith, length, get_or}
 use Rattle.exact_num.specs.Whole.{int_ℚ-zero}
-use Rattle.exact_simplex.proofs.TableauLaws.{written}
+use Rattle.simplex_tableau.proofs.TableauLaws.{written}
 use Rattle.exact_simplex.specs.Values.{AddsValue}
 use Rattle.exact_simplex.proofs.ValueLemmas.{values_none, values_more}
 use Rattle.exact_simplex.proofs.column_values.values_of_columns.Goals as goal

@@ -3,7 +3,7 @@ use Rattle.exact_num.specs.Order.{<ℚ-≤ℚ, ◌≤ℚ◌}
 use Rattle.exact_num.specs.Ops.{zero_ℚ}
 use Rattle.exact_simplex.specs.Force.{SuitsAt}
 use Rattle.exact_simplex.proofs.ForceLemmas.{waiting_suits, point_is, okay_zero}
-use Rattle.exact_simplex.specs.declared.state.RowState.TheVariants as state
+use Rattle.simplex_tableau.specs.declared.state.RowState.TheVariants as state
 use Rattle.exact_simplex.proofs.force.force_row.Goals as goal
 
 pub set_state-requires-clause-suits : goal.set_state-requires-clause-suits

@@ -1,7 +1,7 @@
 use Rattle.std.proofs.Common.{◌∙◌, sym, subst}
 use Rattle.exact_num.specs.Ops.{zero_ℚ}
 use Rattle.exact_num.specs.Order.{◌≤ℚ◌, <ℚ-≤ℚ}
-use Rattle.exact_simplex.specs.declared.state.RowState.TheVariants as state
+use Rattle.simplex_tableau.specs.declared.state.RowState.TheVariants as state
 use Rattle.exact_simplex.specs.declared.task.RowKind.TheVariants as kind
 use Rattle.exact_simplex.proofs.ForceLemmas.{waiting_suits, point_is, okay_zero}
 use Rattle.exact_simplex.proofs.rows.lead_row.Goals as goal

@@ -1,5 +1,5 @@
 use Rattle.std.proofs.Common.{◌<◌, sym, subst, take}
-use Rattle.exact_simplex.specs.Dense.{num}
+use Rattle.simplex_tableau.specs.Dense.{num}
 use Rattle.exact_simplex.specs.Scaled.{IsOptimum}
 use Rattle.exact_simplex.proofs.AnswerLemmas.{best_from, num-take}
 use Rattle.exact_simplex.proofs.solve.best_point.Goals as goal

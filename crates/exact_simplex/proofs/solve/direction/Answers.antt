@@ -1,9 +1,9 @@
 use Rattle.std.proofs.Common.{◌∙◌, ap, subst, length, pos, replicate, ◌++◌, ◌∷◌, []}
 use Rattle.exact_num.specs.Ops.{neg_ℚ}
 use Rattle.exact_num.specs.Whole.{int_ℚ-one, int_ℚ-neg, int_ℚ-zero}
-use Rattle.exact_simplex.proofs.EndsLaws.{ends_after}
-use Rattle.exact_simplex.specs.Dense.{Added}
-use Rattle.exact_simplex.proofs.TableauLaws.{written}
+use Rattle.simplex_tableau.proofs.EndsLaws.{ends_after}
+use Rattle.simplex_tableau.specs.Dense.{Added}
+use Rattle.simplex_tableau.proofs.TableauLaws.{written}
 use Rattle.exact_simplex.proofs.AnswerLemmas.{direction_from}
 use Rattle.exact_simplex.proofs.solve.direction.Goals as goal
 

@@ -1,12 +1,12 @@
 use Rattle.std.proofs.Common.{◌∙◌, sym, ap, subst, length, true}
-use Rattle.exact_simplex.specs.Dense.{num}
+use Rattle.simplex_tableau.specs.Dense.{num}
 use Rattle.exact_simplex.specs.Drive.{EndsAt}
 use Rattle.exact_simplex.specs.Enter.{IsExtreme}
 use Rattle.exact_simplex.specs.Progress.{size_of}
 use Rattle.exact_simplex.specs.Ray.{IsDirection, IsRayFraction}
-use Rattle.exact_simplex.specs.Sparse.{PlacesBelow}
-use Rattle.exact_simplex.proofs.SparseLaws.{places-below}
-use Rattle.exact_simplex.proofs.TableauLaws.{written}
+use Rattle.simplex_tableau.specs.Sparse.{PlacesBelow}
+use Rattle.simplex_tableau.proofs.SparseLaws.{places-below}
+use Rattle.simplex_tableau.proofs.TableauLaws.{written}
 use Rattle.exact_simplex.proofs.AnswerLemmas.{gain_stays, settled_after, stuck_gain, unbounded_gain, ray_from}
 use Rattle.exact_simplex.proofs.solve.raise_gain.Goals as goal
 

@@ -3,7 +3,7 @@ use Rattle.exact_num.specs.Whole.{int_ℚ-one}
 use Rattle.exact_simplex.specs.Build.{HasUnits}
 use Rattle.exact_simplex.specs.Start.{AreSlacks}
 use Rattle.exact_simplex.specs.Progress.{size_of}
-use Rattle.exact_simplex.specs.declared.state.RowState.TheVariants as state
+use Rattle.simplex_tableau.specs.declared.state.RowState.TheVariants as state
 use Rattle.exact_simplex.proofs.StartLemmas.{starts_from}
 use Rattle.exact_simplex.proofs.start.start.Goals as goal
 

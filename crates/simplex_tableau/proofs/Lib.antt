@@ -1,0 +1,13 @@
+pub mod BasisLaws
+pub mod DenseLaws
+pub mod DualityLaws
+pub mod EndsLaws
+pub mod InverseLaws
+pub mod LeaveLaws
+pub mod PivotLaws
+pub mod SignsLaws
+pub mod SimplexLaws
+pub mod SparseLaws
+pub mod StatesLaws
+pub mod TableauLaws
+pub mod ListLemmas

@@ -1,0 +1,12 @@
+pub mod Ends
+pub mod Signs
+pub mod Sparse
+pub mod Dense
+pub mod Pivot
+pub mod Duality
+pub mod Inverse
+pub mod Basis
+pub mod States
+pub mod Tableau
+pub mod Simplex
+pub mod Leave
