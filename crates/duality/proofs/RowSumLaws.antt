@@ -1,5 +1,5 @@
 -- What a run of base rows costs by the sums below its ends.
-use Rattle.std.proofs.Common.{ℕ, ◌≡◌, ◌+◌, ◌*◌, ◌<◌, ◌≤◌, arith, refl, sym, ◌∙◌, ap, subst, zero, suc, List, [], ◌∷◌, length, drop, inl, inr}
+use Rattle.std.proofs.Common.{ℕ, ◌≡◌, ◌+◌, ◌*◌, ◌<◌, ◌≤◌, arith, refl, sym, ◌∙◌, ap, subst, zero, suc, List, length, drop, inl, inr}
 use Rattle.std.specs.Prelude.{◌^◌, FitsSigned, ℤ, pos, ◌+ℤ◌, ◌-ℤ◌, slice_index_or, slice_set}
 use Rattle.std.proofs.lemmas.Bool.{cases_eq}
 use Rattle.std.proofs.lemmas.List.{drop_more, get_or-set_same, get_or-set_other}

@@ -1,12 +1,12 @@
 -- Marks of patterns and of base rows.
-use Rattle.std.proofs.Common.{ℕ, ◌≡◌, ◌≢◌, ◌+◌, ◌-◌, ◌<◌, ◌≤◌, inl, inr, zero, suc, Bool, true, false, not, ◌&&◌, ◌||◌, refl, arith, ap, sym, ◌∙◌, subst, List, [], ◌∷◌, length, get_or, drop}
+use Rattle.std.proofs.Common.{ℕ, ◌≡◌, ◌+◌, ◌-◌, ◌<◌, ◌≤◌, inl, inr, zero, suc, Bool, true, false, not, ◌&&◌, ◌||◌, refl, arith, ap, sym, ◌∙◌, List, [], ◌∷◌, length, get_or}
 use Rattle.std.specs.Prelude.{◌==◌, nat_le, nat_lt, replicate, slice_index_or, slice_set}
 use Rattle.std.specs.List.{list_all, list_any}
-use Rattle.std.proofs.lemmas.Bool.{cases_eq, cases_lt, and_parts, and_from, or_left, or_right, or_cases, eq-eqb, eqb-true, ltb-true, lt-ltb, leb-true, le-leb, true≢false, both_ways, not_from_false}
-use Rattle.std.proofs.lemmas.List.{get_or-set_same, get_or-set_other, get_or_past, get_or-replicate, length-replicate}
+use Rattle.std.proofs.lemmas.Bool.{cases_eq, cases_lt, and_parts, and_from, or_left, or_right, or_cases, eq-eqb, eqb-true, ltb-true, lt-ltb, leb-true, le-leb, true≢false}
+use Rattle.std.proofs.lemmas.List.{get_or-set_other, get_or_past, get_or-replicate, length-replicate}
 use Rattle.numbers.specs.Sums.{member}
 use Rattle.problem_core.specs.Facts.{Facts}
-use Rattle.meeting_patterns.specs.Pattern.{patterns_of, pattern_at}
+use Rattle.meeting_patterns.specs.Pattern.{patterns_of}
 use Rattle.meeting_patterns.proofs.ListLemmas.{patterns_are}
 use Rattle.duality.specs.declared.row.Run.{Run}
 use Rattle.duality.specs.declared.row.RowName.TheVariants.{Base}
@@ -14,11 +14,10 @@ use Rattle.duality.specs.Packing.{Packing, Fixing as Fixed, is_free}
 use Rattle.duality.specs.Runs.{rows_from, rows_in, AreBelow}
 use Rattle.duality.specs.Sums.{member_row, AreInTable}
 use Rattle.packing_model.specs.declared.fixing.Fixing.{Fixing}
-use Rattle.packing_model.specs.Rows.{row_at, stands_in}
+use Rattle.packing_model.specs.Rows.{row_at}
 use Rattle.packing_model.specs.Built.{packing, rows_of, AreBaseRunsOf}
 use Rattle.packing_model.specs.Nodes.{fixed_of}
-use Rattle.packing_model.specs.NodeMarks.{mark_at, OnlyMarks, in_run, in_runs, has_one_of, AreNodeMarks, MeetsRuns}
-use Rattle.packing_model.specs.Runs.{no_run}
+use Rattle.packing_model.specs.NodeMarks.{mark_at, OnlyMarks, in_run, in_runs, has_one_of, MeetsRuns}
 use Rattle.packing_model.proofs.CutLemmas.{member_row-append}
 use Rattle.packing_model.proofs.RunLemmas.{member_from}
 use Rattle.packing_model.proofs.RowLemmas.{base_clash_any}

@@ -1,5 +1,5 @@
 -- Marks of a fixing by pattern and by base row, and of the patterns of a cut by base row.
-use Rattle.std.specs.Prelude.{ℕ, ◌≡◌, ◌<◌, ◌≤◌, ◌+◌, ◌&&◌, ◌||◌, nat_le, nat_lt, Bool, true, false, List, length, slice_index_or}
+use Rattle.std.specs.Prelude.{ℕ, ◌≡◌, ◌+◌, ◌&&◌, nat_le, nat_lt, Bool, true, false, List, length, slice_index_or}
 use Rattle.std.specs.List.{list_any}
 use Rattle.numbers.specs.Sums.{member}
 use Rattle.duality.specs.Packing.{Packing}

@@ -1,5 +1,5 @@
 -- Of which patterns of a list each base row is, as bits.
-use Rattle.std.specs.Prelude.{ℕ, ◌≡◌, ◌≢◌, ◌<◌, ◌/◌, ◌%◌, true, List, [], length, slice_index, slice_index_or}
+use Rattle.std.specs.Prelude.{ℕ, ◌≡◌, ◌<◌, ◌/◌, ◌%◌, true, List, [], length, slice_index, slice_index_or}
 use Rattle.std.specs.Int.{bit_at}
 use Rattle.duality.specs.Packing.{Packing}
 use Rattle.duality.specs.declared.row.Run.{Run}

@@ -1,8 +1,6 @@
-use Rattle.std.proofs.Common.{◌≡◌, ◌<◌, ◌∙◌, arith, sym, subst, length}
-use Rattle.std.specs.Prelude.{slice_index}
+use Rattle.std.proofs.Common.{arith, sym, subst, length}
 use Rattle.meeting_patterns.specs.Pattern.{patterns_of}
 use Rattle.duality.specs.Runs.{AreBelow}
-use Rattle.packing_model.specs.Built.{packing}
 use Rattle.packing_model.proofs.BitLemmas.{met_clashes}
 use Rattle.packing_model.proofs.NodeLemmas.{known_at}
 use Rattle.packing_model.proofs.cut.first_unmet.Goals as goal

@@ -1,4 +1,4 @@
-use Rattle.std.proofs.Common.{arith, ◌∙◌, length, get_or}
+use Rattle.std.proofs.Common.{arith, ◌∙◌, get_or}
 use Rattle.packing_model.specs.NodeMarks.{in_run, in_runs}
 use Rattle.packing_model.specs.Runs.{no_run}
 use Rattle.packing_model.proofs.BitLemmas.{rows_added}

@@ -1,5 +1,4 @@
-use Rattle.std.proofs.Common.{arith, inl, inr, ◌≡◌, ◌⊎◌}
-use Rattle.packing_model.specs.RowMembers.{bit_in, HasMember}
+use Rattle.std.proofs.Common.{arith, inl, inr}
 use Rattle.packing_model.proofs.MarkLemmas.{in_run_at}
 use Rattle.packing_model.proofs.members.join_run.Goals as goal
 

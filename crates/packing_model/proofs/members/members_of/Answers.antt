@@ -1,4 +1,4 @@
-use Rattle.std.proofs.Common.{◌∙◌, arith, length}
+use Rattle.std.proofs.Common.{◌∙◌, arith}
 use Rattle.packing_model.specs.Built.{packing}
 use Rattle.packing_model.proofs.BitLemmas.{members_more, no_members_yet}
 use Rattle.packing_model.proofs.members.members_of.Goals as goal

@@ -1,5 +1,4 @@
-use Rattle.std.proofs.Common.{arith, inl, inr, ◌≡◌, ◌⊎◌, length}
-use Rattle.packing_model.specs.RowMembers.{bit_in, MeetsMember}
+use Rattle.std.proofs.Common.{arith, inl, inr, length}
 use Rattle.packing_model.specs.Runs.{no_run}
 use Rattle.packing_model.proofs.MarkLemmas.{in_runs_at, run_below}
 use Rattle.packing_model.proofs.members.met_by.Goals as goal

@@ -1,4 +1,4 @@
-use Rattle.std.proofs.Common.{◌≡◌, ◌∙◌, [], arith, ap, length}
+use Rattle.std.proofs.Common.{◌∙◌, [], arith, ap, length}
 use Rattle.std.specs.Prelude.{replicate, slice_index_or}
 use Rattle.std.proofs.lemmas.List.{length_push}
 use Rattle.packing_model.specs.RowMembers.{bit_in}

@@ -1,4 +1,4 @@
-use Rattle.std.proofs.Common.{ℕ, arith, get_or, length, ◌||◌}
+use Rattle.std.proofs.Common.{arith, get_or, ◌||◌}
 use Rattle.std.proofs.lemmas.Bool.{or_right}
 use Rattle.packing_model.specs.NodeMarks.{mark_at, in_run, in_runs}
 use Rattle.packing_model.specs.Runs.{no_run}

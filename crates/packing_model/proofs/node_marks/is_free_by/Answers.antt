@@ -1,6 +1,5 @@
-use Rattle.std.proofs.Common.{sym, true}
-use Rattle.packing_model.specs.Built.{packing}
-use Rattle.packing_model.proofs.MarkLemmas.{marked_left_out, marked_row}
+use Rattle.std.proofs.Common.{sym}
+use Rattle.packing_model.proofs.MarkLemmas.{marked_row}
 use Rattle.packing_model.proofs.node_marks.is_free_by.Goals as goal
 
 pub returns-then-meets : goal.returns-then-meets

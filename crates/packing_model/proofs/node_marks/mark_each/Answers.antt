@@ -1,8 +1,7 @@
-use Rattle.std.proofs.Common.{arith, get_or, length, ◌∙◌, refl, true}
+use Rattle.std.proofs.Common.{arith, get_or, ◌∙◌, refl, true}
 use Rattle.std.proofs.lemmas.List.{length-set}
 use Rattle.numbers.specs.Sums.{member}
 use Rattle.packing_model.proofs.MarkLemmas.{only_none, only_set, member_here}
-use Rattle.packing_model.proofs.NodeLemmas.{known_at}
 use Rattle.packing_model.proofs.node_marks.mark_each.Goals as goal
 
 pub loop-place-init : goal.loop-place-init

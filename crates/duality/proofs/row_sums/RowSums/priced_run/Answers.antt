@@ -1,9 +1,8 @@
-use Rattle.std.proofs.Common.{◌≡◌, ◌+◌, ◌*◌, ◌^◌, ◌<◌, arith, sym, subst}
-use Rattle.std.specs.Prelude.{ℕ, ℤ, pos, ◌-ℤ◌, slice_index_or}
+use Rattle.std.proofs.Common.{◌≡◌, ◌+◌, ◌*◌, ◌^◌, arith, sym, subst}
+use Rattle.std.specs.Prelude.{pos, ◌-ℤ◌, slice_index_or}
 use mir.Syntax.{w128}
 use mir.Val.{to_z, of_z}
 use Rattle.numbers.specs.Sums.{total}
-use Rattle.duality.specs.declared.row.RowName.TheVariants.{Base}
 use Rattle.duality.specs.Runs.{rows_from}
 use Rattle.duality.specs.Sums.{IsWithin, times_of}
 use Rattle.duality.proofs.RowSumLaws.{entry_within, fits_difference, plain_difference, run_value, run_within}
