@@ -1,5 +1,5 @@
 -- Bytes in pieces are read as in one.
-use Rattle.std.proofs.Common.{ℕ, ◌≡◌, ◌+◌, ◌<◌, refl, sym, ◌∙◌, ap, Bool, true, false, List, [], ◌∷◌, ◌++◌, append_assoc, append-nil, length, arith}
+use Rattle.std.proofs.Common.{ℕ, ◌≡◌, ◌+◌, refl, sym, ◌∙◌, ap, Bool, true, false, List, [], ◌∷◌, ◌++◌, append_assoc, append-nil, length, arith}
 use Rattle.std.specs.Prelude.{Option, Some, None, Err}
 use Rattle.std.specs.List.{list_all}
 use Rattle.std.proofs.lemmas.Bool.{and_parts, and_from, true≢false}
@@ -8,14 +8,14 @@ use Rattle.problem_core.specs.Facts.{Facts}
 use Rattle.cert_text.specs.Numbers.{lacks, cut}
 use Rattle.cert_text.specs.Text.{fed, Standing, begun, pieces_before, last_of, whole_lines, rest_of, takes, read_from, read_end, certificate_of}
 use Rattle.cert_text.proofs.NumberLaws.{cut-whole}
-use Rattle.cert_text.proofs.TextLaws.{next_whole, bytes_split, whole_lack, cut_some, cut_lacks}
+use Rattle.cert_text.proofs.TextLaws.{next_whole, bytes_split, whole_lack, cut_lacks}
 use Rattle.cert_checker.specs.declared.reading.Reading.{Reading}
 use Rattle.cert_checker.specs.declared.verdict.Reason.TheVariants as reasons
 use Rattle.cert_checker.specs.declared.verdict.Verdict.{Verdict}
 use Rattle.cert_checker.specs.declared.verdict.Verdict.TheVariants.{Not}
 use Rattle.cert_checker.specs.Verdicts.{verdict_of}
 use Rattle.cert_checker.specs.Progresses.{IsAt, TakesLine}
-use Rattle.cert_checker.specs.Feeding.{IsGoing, IsStopped, IsFedAt}
+use Rattle.cert_checker.specs.Feeding.{IsGoing, IsStopped}
 
 lacks-both : (xs ys : List ℕ) → lacks 10 xs ≡ true → lacks 10 ys ≡ true → lacks 10 (xs ++ ys) ≡ true
 lacks-both xs ys h k = list_all-append _ xs ys ∙ and_from (lacks 10 xs) (lacks 10 ys) h k

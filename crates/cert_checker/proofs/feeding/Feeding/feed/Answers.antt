@@ -1,4 +1,4 @@
-use Rattle.std.proofs.Common.{◌≡◌, ◌∙◌, ◌∷◌, ◌++◌, [], arith, sym, ap, subst, append_assoc, length}
+use Rattle.std.proofs.Common.{◌∙◌, ◌∷◌, ◌++◌, [], arith, sym, ap, subst, append_assoc}
 use Rattle.cert_checker.specs.Feeding.{IsGoing, IsStopped, IsFedAt}
 use Rattle.cert_checker.proofs.FeedLaws.{next_is, none_whole, fed_on, fed_stops, fed_rest}
 use Rattle.cert_checker.proofs.feeding.Feeding.feed.Goals as goal
