@@ -7,4 +7,4 @@ pub mod PlaceLaws
 pub mod StandLaws
 pub mod AtLaws
 pub mod VerdictLaws
-pub mod ReadingLaws
+pub mod FeedLaws

@@ -19,7 +19,7 @@ use Rattle.cert_text.specs.declared.lines.CertLine.TheVariants.{Head, Sizes, Cho
 use Rattle.cert_text.specs.declared.lines.Certificate.{Certificate}
 use Rattle.cert_text.specs.Spelling.{in_bounds, scale_in_bounds, term_in_bounds}
 use Rattle.duality.specs.Sums.{rises, is_small}
-use Rattle.cert_text.specs.Grammar.{Opening, opening_of, blocks, open_block, lines_of, is_closed_tree, is_open_tree, fits_count, is_shaped, is_writable}
+use Rattle.cert_text.specs.Grammar.{Opening, opening_of, blocks, open_block, is_closed_tree, is_open_tree, fits_count, is_writable}
 use Rattle.cert_text.specs.Sharing.{plain}
 use Rattle.cert_text.proofs.TextLaws.{writable_is}
 use Rattle.cert_text.proofs.ShareLaws.{is_name, no_names, none_in, plain_count, plain_writable}

@@ -20,8 +20,7 @@ use Rattle.packing_model.specs.Built.{packing, measured, rows_of}
 use Rattle.packing_model.specs.Cuts.{first_apart}
 use Rattle.cert_text.specs.declared.lines.Tree.{Tree}
 use Rattle.cert_text.specs.declared.lines.Certificate.{Certificate}
-use Rattle.cert_text.specs.Spelling.{in_bounds}
-use Rattle.cert_text.specs.Grammar.{Opening, opening_of, lines_of, fits_count, is_closed_tree, is_open_tree, is_shaped, is_writable}
+use Rattle.cert_text.specs.Grammar.{Opening, opening_of, fits_count, is_closed_tree, is_open_tree, is_writable}
 use Rattle.cert_text.specs.Text.{IsText, IsFaultyLine, certificate_of}
 use Rattle.cert_text.specs.Sharing.{plain as plain_form}
 use Rattle.cert_text.proofs.TextLaws.{writable_is}

@@ -2,3 +2,4 @@ pub mod Faults
 pub mod Verdicts
 pub mod Trees
 pub mod Progresses
+pub mod Feeding

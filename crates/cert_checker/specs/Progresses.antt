@@ -19,7 +19,7 @@ use Rattle.cert_text.specs.Places.{place_of, count_of, wanted_of}
 use Rattle.std.specs.List.{list_all}
 use Rattle.cert_text.specs.Spelling.{in_bounds}
 use Rattle.cert_text.specs.Sharing.{none_named, all_named, plain_lines, are_leaf_lines}
-use Rattle.cert_text.specs.Text.{Standing, read_from, certificate_of}
+use Rattle.cert_text.specs.Text.{Standing}
 use Rattle.packing_model.specs.Built.{packing, measured}
 use Rattle.packing_model.specs.Cuts.{IsPoolOf}
 use Rattle.duality.specs.After.{after}
@@ -239,9 +239,3 @@ pub record IsSound (f : Facts) (r : Reading) : Type 0 where
 abbrev pub TakesLine : Facts → Option Standing → Reading → Bool → Type 0
 TakesLine f None r ok = ok ≡ false
 TakesLine f (Some t) r ok = (ok ≡ true) × IsAt f r t
-
--- what is left to read, from where the reading stands
-pub record IsReading (f : Facts) (r : Reading) (texts : List (List ℕ)) (rest bytes : List ℕ) : Type 0 where
-  pub standing : Standing
-  pub at : IsAt f r standing
-  pub read : read_from standing r.progress.line texts rest ≡ certificate_of bytes

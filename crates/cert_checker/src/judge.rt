@@ -2,10 +2,10 @@ ghost use Rattle.std.specs.Prelude.{◌≡◌, IfOk};
 ghost use Rattle.cert_text.specs.Text.{certificate_of};
 ghost use Rattle.cert_checker.specs.Verdicts.{verdict_of, Means};
 
+use crate::checker::Checker;
 use crate::laws::certificate_laws;
-use crate::reading::Reading;
-use crate::verdict::{Reason, Verdict};
-use cert_text::{next_line, text_laws};
+use crate::verdict::Verdict;
+use cert_text::text_laws;
 use packing_model::Model;
 use problem_core::Memory;
 use std::alloc::Global;
@@ -24,21 +24,11 @@ pub fn check(alloc: Global, model: &Model, bytes: &[u8]) -> Result<Verdict, Memo
     judge(alloc, model, bytes)
 }
 
-// The verdict, line by line.
+// The verdict of a checker that is fed once.
 fn judge(alloc: Global, model: &Model, bytes: &[u8]) -> Result<Verdict, Memory>
     ensures { IfOk result (λ v. v ≡ verdict_of model.now (certificate_of bytes.now)) }
 {
-    let mut reading = Reading::new(alloc);
-    let mut rest = bytes;
-    'lines: while let Some((line, after)) = next_line(rest) {
-        let number = reading.progress.line;
-        if !reading.take_bytes(alloc, model, line)? {
-            return Ok(Verdict::Not {
-                line: number,
-                reason: Reason::Text,
-            });
-        }
-        rest = after;
-    }
-    Ok(reading.finish(rest))
+    let mut checker = Checker::new(alloc, model);
+    checker.feed(bytes)?;
+    checker.finish()
 }

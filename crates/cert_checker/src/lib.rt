@@ -2,6 +2,8 @@
 //! is at fault; and the judge of a tree's nodes that it stands on, which serves any objective.
 #![tactic(auto)]
 
+mod checker;
+mod feeding;
 mod judge;
 mod laws;
 mod progress;
@@ -9,6 +11,7 @@ mod reading;
 mod tree;
 mod verdict;
 
+pub use checker::Checker;
 pub use judge::check;
 pub use laws::certificate_laws;
 pub use search_nodes::Walk;

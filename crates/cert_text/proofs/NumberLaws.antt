@@ -38,7 +38,7 @@ joined-cut sep (b ∷ bs) = elim (cases_Bool (b == sep)) [
   | inr plain ↦ rw plain (joined-onto sep b (cut sep bs) ∙ ap (λ x. b ∷ x) (joined-cut sep bs))
 ]
 
-cut-whole : (sep : ℕ) (f : List ℕ) → lacks sep f ≡ true → cut sep f ≡ f ∷ []
+pub cut-whole : (sep : ℕ) (f : List ℕ) → lacks sep f ≡ true → cut sep f ≡ f ∷ []
 cut-whole sep [] h = refl
 cut-whole sep (b ∷ f) h =
     let parts = and_parts (not (b == sep)) (lacks sep f) h in

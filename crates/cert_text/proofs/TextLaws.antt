@@ -20,7 +20,7 @@ use Rattle.cert_text.proofs.GrammarLaws.{lines_are, lines_read, read_shaped, beg
 
 -- ---- lines of bytes
 
-cut_some : (sep : ℕ) (bs : List ℕ) → (f : List ℕ) × (fs : List (List ℕ)) × (cut sep bs ≡ f ∷ fs)
+pub cut_some : (sep : ℕ) (bs : List ℕ) → (f : List ℕ) × (fs : List (List ℕ)) × (cut sep bs ≡ f ∷ fs)
 cut_some sep [] = ([], [], refl)
 cut_some sep (b ∷ bs) = go (b == sep) (cut sep bs)
   where
@@ -61,7 +61,7 @@ lacks-onto b (c ∷ cs) h all =
     let parts = and_parts (lacks 10 c) (list_all (lacks 10) cs) all in
     and_from (lacks 10 (b ∷ c)) (list_all (lacks 10) cs) (and_from (not (b == 10)) (lacks 10 c) (ap not h) parts.0) parts.1
 
-cut_lacks : (bs : List ℕ) → list_all (lacks 10) (cut 10 bs) ≡ true
+pub cut_lacks : (bs : List ℕ) → list_all (lacks 10) (cut 10 bs) ≡ true
 cut_lacks [] = refl
 cut_lacks (b ∷ bs) = elim (cases_Bool (b == 10)) [
   | inl feed ↦ rw feed (cut_lacks bs)
@@ -75,7 +75,7 @@ before_lacks (p ∷ (q ∷ ps)) h =
     let parts = and_parts (lacks 10 p) (list_all (lacks 10) (q ∷ ps)) h in
     and_from (lacks 10 p) (list_all (lacks 10) (pieces_before (q ∷ ps))) parts.0 (before_lacks (q ∷ ps) parts.1)
 
-whole_lack : (bytes : List ℕ) → list_all (lacks 10) (whole_lines bytes) ≡ true
+pub whole_lack : (bytes : List ℕ) → list_all (lacks 10) (whole_lines bytes) ≡ true
 whole_lack bytes = before_lacks (cut 10 bytes) (cut_lacks bytes)
 
 take_lacks : (k : ℕ) (ls : List (List ℕ)) → list_all (lacks 10) ls ≡ true → list_all (lacks 10) (take k ls) ≡ true

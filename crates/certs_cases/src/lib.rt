@@ -3,3 +3,7 @@
 
 #[cfg(test)]
 mod forms;
+#[cfg(test)]
+mod pieces;
+#[cfg(test)]
+mod shape;
