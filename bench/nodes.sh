@@ -19,7 +19,7 @@ for name in values numbers duality exact_num exact_simplex problem_core meeting_
     done
     grep "^$name:" "$top/crates.txt" >>"$work/crates.txt"
 done
-echo 'nodes_bench: values exact_num problem_core meeting_patterns packing_model search_nodes node_bound' >>"$work/crates.txt"
+echo 'nodes_bench: values duality exact_num problem_core meeting_patterns packing_model search_nodes node_bound' >>"$work/crates.txt"
 : >"$bench/specs/Lib.antt"
 : >"$bench/proofs/Lib.antt"
 cat >"$bench/src/main.rt" <<'PROGRAM'
