@@ -1,5 +1,5 @@
 -- What the answer of a node's linear program says at the node.
-use Rattle.std.proofs.Common.{ℕ, ◌≡◌, ◌<◌, ◌≤◌, ◌+◌, ◌-◌, arith, refl, sym, ◌∙◌, ap, subst, zero, suc, true, false, List, [], ◌∷◌, ◌++◌, length, inl, inr}
+use Rattle.std.proofs.Common.{ℕ, ◌≡◌, ◌≤◌, ◌+◌, ◌-◌, arith, refl, sym, ◌∙◌, ap, subst, zero, suc, true, List, ◌++◌, length, inl, inr}
 use Rattle.std.specs.Prelude.{ℤ, pos, ◌+ℤ◌, ◌*ℤ◌, ◌≤ℤ◌, ◌<ℤ◌, ◌⊎◌, int_le, not, Option, Some, None, MatchOption, Ok}
 use Rattle.std.specs.List.{list_any}
 use Rattle.std.specs.Ordering.{int_eq}
@@ -14,7 +14,6 @@ use Rattle.duality.specs.declared.row.RowName.{RowName}
 use Rattle.duality.specs.declared.row.RowName.TheVariants.{Base, Cut, Level}
 use Rattle.duality.specs.Packing.{Packing, Weights, Stage, Fixing, is_free}
 use Rattle.duality.specs.Units.{free_count}
-use Rattle.packing_model.specs.Built.{packing}
 use Rattle.packing_model.specs.declared.point.Point.{Point}
 use Rattle.search_nodes.specs.Points.{IsAbove, IsGapPoint, sum_at}
 use Rattle.exact_simplex.specs.declared.task.Lp.{Lp}

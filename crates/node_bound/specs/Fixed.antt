@@ -1,10 +1,9 @@
 -- The patterns that are taken, where they are all that is left.
-use Rattle.std.specs.Prelude.{ℕ, ℤ, pos, negsuc, ◌≡◌, ◌≤◌, ◌<◌, ◌≤ℤ◌, ◌<ℤ◌, ◌*ℤ◌, ◌⊎◌, int_le, Bool, true, false, Option, Some, None, List, length}
-use Rattle.numbers.specs.Sums.{total}
+use Rattle.std.specs.Prelude.{ℕ, ℤ, pos, negsuc, ◌≡◌, ◌≤◌, ◌<ℤ◌, ◌*ℤ◌, ◌⊎◌, int_le, Bool, true, false, Option, Some, None, List, length}
 use Rattle.problem_core.specs.Facts.{Facts}
 use Rattle.meeting_patterns.specs.Pattern.{patterns_of}
 use Rattle.duality.specs.declared.row.Term.{Term}
-use Rattle.duality.specs.Packing.{Packing, Weights, Stage, Fixing, is_there, has_sign, target_of}
+use Rattle.duality.specs.Packing.{Packing, Weights, Stage, Fixing, is_there, has_sign}
 use Rattle.packing_model.specs.Built.{packing}
 use Rattle.packing_model.specs.Nodes.{IsValidFixing, AreTargets}
 use Rattle.packing_model.specs.declared.fixing.Fixing.{Fixing as Fixed}

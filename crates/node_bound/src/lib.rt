@@ -5,8 +5,8 @@
 mod amounts;
 mod bounded;
 mod closing;
-mod divisor;
 mod columns;
+mod divisor;
 mod entries;
 mod fixed;
 mod free;

@@ -22,7 +22,7 @@ use crate::whole::{is_whole, whole_choice};
 use clique_cuts::rounded;
 use duality::Objective;
 use exact_num::{Arith, Steps};
-use exact_simplex::{LpAnswer, Plan, solve_by_plan};
+use exact_simplex::{LpAnswer, solve_by_plan};
 use packing_model::{ObjectiveAt, Point};
 use problem_core::Memory;
 use std::alloc::Global;
@@ -67,7 +67,7 @@ fn solved<O: Objective, A: Arith, L: Ledger>(
 {
     at.model.laws();
     let before = arith.wide_count();
-    match solve_by_plan(alloc, &task.lp, plan_of(task), arith, steps) {
+    match solve_by_plan(alloc, &task.lp, task.plan(), arith, steps) {
         Ok(LpAnswer::Best { x, xden, y, yden }) => {
             at_best(alloc, at, task, x.as_slice(), xden, y.as_slice(), yden)
         }
@@ -79,15 +79,6 @@ fn solved<O: Objective, A: Arith, L: Ledger>(
         }),
         Ok(LpAnswer::Stalled { pivots }) => Ok(Bounded::Stalled { pivots }),
         Err(_) => Err(Memory),
-    }
-}
-
-/// The order in which the rows come in force: those of events, and of rooms and slots, hold from the start,
-/// then come the levels below; before the rows of courses and rooms the gain is driven up.
-fn plan_of(task: &NodeTask) -> Plan {
-    Plan {
-        leading: task.lead,
-        ascent: Some(task.lead.saturating_add(task.low)),
     }
 }
 
