@@ -17,7 +17,7 @@ use Rattle.packing_model.specs.Closing.{HasTargets, choice_of}
 use Rattle.cert_text.specs.declared.lines.Certificate.{Certificate}
 use Rattle.cert_text.specs.Grammar.{opening_of}
 use Rattle.cert_checker.specs.Faults.{stage_for, value_at}
-use Rattle.cert_checker.specs.Verdicts.{IsClique, IsValid, tree_at}
+use Rattle.cert_checker.specs.Verdicts.{IsClique, IsValidPlain, tree_at}
 use Rattle.search_nodes.proofs.ClashLaws.{clash_back}
 
 abbrev pub TreeCaps : Type 0
@@ -68,7 +68,7 @@ measure_at f a (suc (suc (suc (suc (suc zero))))) l m = refl
 measure_at f a (suc (suc (suc (suc (suc (suc zero)))))) l m = refl
 measure_at f a (suc (suc (suc (suc (suc (suc (suc k))))))) l m = absurd (omega arith)
 
-pub valid_best : TreeCaps → (f : Facts) → PackingLaws f → (n : ℕ) (c : Certificate) → n ≤ 6 → IsValid f n c → IsBest f n c.choice
+pub valid_best : TreeCaps → (f : Facts) → PackingLaws f → (n : ℕ) (c : Certificate) → n ≤ 6 → IsValidPlain f n c → IsBest f n c.choice
 valid_best caps f laws n c few valid = record {
   legal = valid.legal;
   none_better = λ k l m b legal same.

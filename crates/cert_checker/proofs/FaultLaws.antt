@@ -98,7 +98,7 @@ tree_clean law k w s (Closing leaf ∷ ns) line f (g ∷ fs) h o n =
     ∙ ap (λ b. (b && closes k w s f leaf) && clean (tree_fault k w s (line + 1) (g ∷ fs) ns)) (sym parts.0)
     ∙ ap (λ b. ends_at k w s f leaf && b) (tree_clean law k w s ns (line + 1) g fs h o parts.1)
 tree_clean law k w s (OpenEnd ∷ ns) line f fs h o n = absurd (true≢false o)
-tree_clean law k w s (Same leaf ∷ ns) line f fs h o n = absurd (true≢false (sym h))
+tree_clean law k w s (Same leaf ∷ ns) line f fs h o n = absurd (true≢false (sym n))
 
 -- ---- the levels
 

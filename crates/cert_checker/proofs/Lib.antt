@@ -5,5 +5,6 @@ pub mod StepLaws
 pub mod ReasonLemmas
 pub mod PlaceLaws
 pub mod StandLaws
+pub mod AtLaws
 pub mod VerdictLaws
 pub mod ReadingLaws

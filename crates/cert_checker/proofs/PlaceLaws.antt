@@ -4,7 +4,7 @@ use Rattle.std.specs.Prelude.{pos, ◌^◌, ◌==◌, ◌⊎◌, nat_lt, Option,
 use Rattle.std.proofs.lemmas.Bool.{and_parts, ne_eqb, lt-ltb, ltb-true, leb-true}
 use Rattle.std.proofs.lemmas.Int.{ints}
 use Rattle.std.proofs.lemmas.Option.{none-some}
-use Rattle.duality.specs.declared.leaf.Node.TheVariants.{Branch, Leaf as Closing, OpenEnd}
+use Rattle.duality.specs.declared.leaf.Node.TheVariants.{Branch, Leaf as Closing, OpenEnd, Same}
 use Rattle.duality.specs.Sums.{IsWithin}
 use Rattle.problem_core.specs.Facts.{Facts}
 use Rattle.packing_model.specs.Built.{packing}
@@ -52,7 +52,7 @@ loose_left : (levels k : ℕ) (seen end : Bool) → ◌≡◌ {A = Option Place}
 loose_left levels k seen end = sym (rw (lt-ltb 0 (suc k) (omega arith)) (ap (λ n. Some (places.Loose levels n seen)) (omega arith)))
 
 next : (p : Place) (l : CertLine) (line n m : ℕ) → in_bounds l ≡ true → count_of p < 7 → wanted_of p ≤ line → HasRoom p n → m ≤ n + cut_count l → NextOf (line + 1) m (follows p l)
-next places.Head lines.Head line n m b c w r k = record { counted = omega arith; wanted = omega arith; room = omega (arith, r, k) }
+next places.Head (lines.Head v) line n m b c w r k = record { counted = omega arith; wanted = omega arith; room = omega (arith, r, k) }
 next places.Sizes (lines.Sizes x y) line n m b c w r k = record { counted = omega arith; wanted = omega arith; room = omega (arith, r, k) }
 next places.Choice (lines.Choice es) line n m b c w r k = record { counted = omega arith; wanted = omega arith; room = omega (arith, r, k) }
 next places.Values (lines.Values vs) line n m b c w r k = record { counted = omega arith; wanted = omega arith; room = omega (arith, r, k) }
@@ -70,11 +70,18 @@ next (places.Inside levels zero) (lines.Node (Closing leaf)) line n m b c w r k 
 next (places.Inside levels (suc j)) (lines.Node (Closing leaf)) line n m b c w r k =
     let back : ◌≡◌ {A = Option Place} (Some (places.Inside levels j)) (cond (suc j == 0) (Some (places.Between (levels + 1))) (Some (places.Inside levels (suc j - 1)))) = sym (rw (ne_eqb (suc j) 0 (λ e. absurd (omega arith))) (ap (λ i. Some (places.Inside levels i)) (omega arith))) in
     subst (NextOf (line + 1) m) back (record { counted = c; wanted = omega (arith, w); room = r })
+next (places.Inside levels zero) (lines.Node (Same q)) line n m b c w r k = record { counted = omega (arith, r); wanted = omega arith; room = tt }
+next (places.Inside levels (suc j)) (lines.Node (Same q)) line n m b c w r k =
+    let back : ◌≡◌ {A = Option Place} (Some (places.Inside levels j)) (cond (suc j == 0) (Some (places.Between (levels + 1))) (Some (places.Inside levels (suc j - 1)))) = sym (rw (ne_eqb (suc j) 0 (λ e. absurd (omega arith))) (ap (λ i. Some (places.Inside levels i)) (omega arith))) in
+    subst (NextOf (line + 1) m) back (record { counted = c; wanted = omega (arith, w); room = r })
 next (places.Inside levels wanted) (lines.Node OpenEnd) line n m b c w r k = tt
 next (places.Loose levels wanted seen) (lines.Node (Branch p)) line n m b c w r k = record { counted = c; wanted = omega (arith, w); room = r }
 next (places.Loose levels zero true) (lines.Node (Closing leaf)) line n m b c w r k = record { counted = c; wanted = omega arith; room = tt }
 next (places.Loose levels zero false) (lines.Node (Closing leaf)) line n m b c w r k = tt
 next (places.Loose levels (suc j) seen) (lines.Node (Closing leaf)) line n m b c w r k = subst (NextOf (line + 1) m) (loose_left levels j seen seen) (record { counted = c; wanted = omega (arith, w); room = r })
+next (places.Loose levels zero true) (lines.Node (Same q)) line n m b c w r k = record { counted = c; wanted = omega arith; room = tt }
+next (places.Loose levels zero false) (lines.Node (Same q)) line n m b c w r k = tt
+next (places.Loose levels (suc j) seen) (lines.Node (Same q)) line n m b c w r k = subst (NextOf (line + 1) m) (loose_left levels j seen seen) (record { counted = c; wanted = omega (arith, w); room = r })
 next (places.Loose levels zero seen) (lines.Node OpenEnd) line n m b c w r k = record { counted = c; wanted = omega arith; room = tt }
 next (places.Loose levels (suc j) seen) (lines.Node OpenEnd) line n m b c w r k = subst (NextOf (line + 1) m) (loose_left levels j true true) (record { counted = c; wanted = omega (arith, w); room = r })
 next (places.After levels) (lines.End j) line n m b c w r k = next_if (j == levels) (places.Over levels) (line + 1) m (λ h. record { counted = c; wanted = omega arith; room = tt })

@@ -25,6 +25,7 @@ use Rattle.cert_text.specs.declared.lines.CertLine.TheVariants as lines
 use Rattle.packing_model.specs.Rising.{rises_from, is_rising}
 use Rattle.packing_model.specs.Cuts.{IsCutList}
 use Rattle.cert_text.specs.Spelling.{in_bounds, rises_above, is_rising as is_rising_line, leaf_in_bounds, scale_in_bounds, term_in_bounds, row_in_bounds, is_zero}
+use Rattle.cert_text.specs.Sharing.{is_plain}
 use Rattle.cert_checker.specs.declared.verdict.Reason.{Reason}
 use Rattle.packing_model.specs.Nodes.{ok_unless}
 use Rattle.cert_checker.specs.Faults.{unknown_reason, is_legal, choice_reason, values_reason, leaf_reason}
@@ -71,11 +72,11 @@ leaf_within leaf h =
     let terms = and_parts (list_all term_in_bounds leaf.terms) (rises leaf.terms) few.1 in
     record { scale = not_negative leaf.scale parts.0; small_scale = small_scale leaf.scale parts.0; rising = terms.1; small = terms_small leaf.terms terms.0 }
 
-pub node_within : (n : SearchNode) → in_bounds (lines.Node n) ≡ true → IsNodeWithin n
-node_within (Branch p) h = tt
-node_within (Closing leaf) h = leaf_within leaf h
-node_within OpenEnd h = tt
-node_within (Same leaf) h = absurd (true≢false (sym h))
+pub node_within : (n : SearchNode) → in_bounds (lines.Node n) ≡ true → is_plain (lines.Node n) ≡ true → IsNodeWithin n
+node_within (Branch p) h e = tt
+node_within (Closing leaf) h e = leaf_within leaf h
+node_within OpenEnd h e = tt
+node_within (Same q) h e = absurd (true≢false (sym e))
 
 -- a leaf that does not close
 abbrev fault_in : Result (Unit {0}) LeafFault → Option LeafFault

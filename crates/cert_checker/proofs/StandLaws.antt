@@ -3,14 +3,14 @@ use Rattle.std.proofs.Common.{ℕ, ◌≡◌, ◌+◌, ◌-◌, arith, refl, sym
 use Rattle.std.specs.Prelude.{ℤ, Option, Some, None, option_map, ◌==◌, ◌^◌}
 use Rattle.std.specs.List.{list_all}
 use Rattle.std.specs.Option.{option_or}
-use Rattle.std.proofs.lemmas.Bool.{and_parts, eqb-true}
+use Rattle.std.proofs.lemmas.Bool.{and_parts, eqb-true, true≢false}
 use Rattle.std.proofs.lemmas.Option.{none-some, same_Some, cond_some}
 use Rattle.numbers.specs.Below.{any_below}
 use Rattle.problem_core.specs.Facts.{Facts}
 use Rattle.problem_core.specs.Measures.{measures, differ_at}
 use Rattle.duality.specs.declared.leaf.Leaf.{Leaf}
 use Rattle.duality.specs.declared.leaf.Node.{Node as SearchNode}
-use Rattle.duality.specs.declared.leaf.Node.TheVariants.{Branch, Leaf as Closing, OpenEnd}
+use Rattle.duality.specs.declared.leaf.Node.TheVariants.{Branch, Leaf as Closing, OpenEnd, Same}
 use Rattle.duality.specs.Packing.{Fixing}
 use Rattle.duality.specs.Tree.{nothing_fixed}
 use Rattle.duality.specs.Walk.{Step, step_at, fixing_of, later, turn, pending, pending_of}
@@ -24,6 +24,7 @@ use Rattle.cert_text.specs.Grammar.{State, Opening, with_cut, with_levels, tree_
 use Rattle.cert_text.specs.Grammar.State.{Begun, Headed, Sized, Chosen, Valued, Cutting, Between, Inside, Loose, After, Over}
 use Rattle.cert_text.specs.Places.{follows, place_of}
 use Rattle.cert_text.specs.Spelling.{in_bounds}
+use Rattle.cert_text.specs.Sharing.{is_plain}
 use Rattle.cert_text.proofs.CountLaws.{step_counts}
 use Rattle.duality.specs.Sums.{is_small}
 use Rattle.cert_checker.specs.declared.verdict.Reason.TheVariants as reasons
@@ -57,11 +58,11 @@ not_judged : (f : Facts) (p : Progress) (q : Place) (n : SearchNode) → p.place
 not_judged f p q n e h = ap (λ r. node_reason_in f p r n) e ∙ h
 
 pub reasons_same : (f : Facts) (p : Progress) (s : State) (l : CertLine) (t : State) → p.place ≡ place_of s → Keeps f p s → step s l ≡ Some t → reason_of f p l ≡ reason_at f s l
-reasons_same f p Begun lines.Head t e k h = refl
-reasons_same f p Headed (lines.Sizes a b) t e k h = refl
-reasons_same f p (Sized a b) (lines.Choice cs) t e k h = refl
-reasons_same f p (Chosen a b cs) (lines.Values vs) t e k h = ap (λ m. values_reason m vs) k.measures
-reasons_same f p (Valued a b cs vs) (lines.Cuts n) t e k h = refl
+reasons_same f p Begun (lines.Head v) t e k h = refl
+reasons_same f p (Headed v) (lines.Sizes a b) t e k h = refl
+reasons_same f p (Sized v a b) (lines.Choice cs) t e k h = refl
+reasons_same f p (Chosen v a b cs) (lines.Values vs) t e k h = ap (λ m. values_reason m vs) k.measures
+reasons_same f p (Valued v a b cs vs) (lines.Cuts n) t e k h = refl
 reasons_same f p (Cutting o zero) (lines.Cut ps) t e k h = refl
 reasons_same f p (Cutting o (suc n)) (lines.Cut ps) t e k h = refl
 reasons_same f p (Between o ts) (lines.Level j) t e k h = refl
@@ -116,37 +117,39 @@ values_right m vs h = go (any_below (differ_at vs m) 6) h
     go true e = absurd (none-some reasons.Values (sym e))
     go false e = refl
 
-keeps_next : (f : Facts) (old new : Progress) (s : State) (l : CertLine) (t : State) → in_bounds l ≡ true → old.place ≡ place_of s → Keeps f old s → step s l ≡ Some t → reason_at f s l ≡ None → IsAdded f old new l → Keeps f new t
-keeps_next f old new Begun lines.Head t b e k h r a = subst (Keeps f new) (same_Some Headed t h) (a.pool ∙ k)
-keeps_next f old new Headed (lines.Sizes x y) t b e k h r a = subst (Keeps f new) (same_Some (Sized x y) t h) (a.pool ∙ k)
-keeps_next f old new (Sized x y) (lines.Choice cs) t b e k h r a = subst (Keeps f new) (same_Some (Chosen x y cs) t h) (record { measures = a.measures; pool = a.pool ∙ k })
-keeps_next f old new (Chosen x y cs) (lines.Values vs) t b e k h r a =
+keeps_next : (f : Facts) (old new : Progress) (s : State) (l : CertLine) (t : State) → in_bounds l ≡ true → is_plain l ≡ true → old.place ≡ place_of s → Keeps f old s → step s l ≡ Some t → reason_at f s l ≡ None → IsAdded f old new l → Keeps f new t
+keeps_next f old new Begun (lines.Head v) t b pl e k h r a = subst (Keeps f new) (same_Some (Headed v) t h) (a.pool ∙ k)
+keeps_next f old new (Headed v) (lines.Sizes x y) t b pl e k h r a = subst (Keeps f new) (same_Some (Sized v x y) t h) (a.pool ∙ k)
+keeps_next f old new (Sized v x y) (lines.Choice cs) t b pl e k h r a = subst (Keeps f new) (same_Some (Chosen v x y cs) t h) (record { measures = a.measures; pool = a.pool ∙ k })
+keeps_next f old new (Chosen v x y cs) (lines.Values vs) t b pl e k h r a =
     let six = eqb-true (length vs) 6 (and_parts (length vs == 6) (list_all (is_small (10 ^ 12)) vs) b).0 in
     let right : vs ≡ measures f cs = values_same (measures f cs) vs six refl (values_right (measures f cs) vs r) in
-    subst (Keeps f new) (same_Some (Valued x y cs vs) t h) (record { measures = a.measures ∙ k.measures ∙ sym right; pool = a.pool ∙ k.pool })
-keeps_next f old new (Valued x y cs vs) (lines.Cuts zero) t b e k h r a = subst (Keeps f new) (same_Some (awaits (record { patterns = x; rows = y; choice = cs; values = vs; cuts = [] }) zero) t h) (opening_same old new vs [] k a.measures a.pool)
-keeps_next f old new (Valued x y cs vs) (lines.Cuts (suc n)) t b e k h r a = subst (Keeps f new) (same_Some (awaits (record { patterns = x; rows = y; choice = cs; values = vs; cuts = [] }) (suc n)) t h) (opening_same old new vs [] k a.measures a.pool)
-keeps_next f old new (Cutting o zero) (lines.Cut ps) t b e k h r a = subst (Keeps f new) (same_Some (Between (with_cut ps o) []) t h) (record { measures = a.measures ∙ k.measures; pool = a.pool ∙ ap (λ cuts. cuts ++ (ps ∷ [])) k.pool })
-keeps_next f old new (Cutting o (suc n)) (lines.Cut ps) t b e k h r a = subst (Keeps f new) (same_Some (Cutting (with_cut ps o) n) t h) (record { measures = a.measures ∙ k.measures; pool = a.pool ∙ ap (λ cuts. cuts ++ (ps ∷ [])) k.pool })
-keeps_next f old new (Between o ts) (lines.Level j) t b e k h r a =
+    subst (Keeps f new) (same_Some (Valued v x y cs vs) t h) (record { measures = a.measures ∙ k.measures ∙ sym right; pool = a.pool ∙ k.pool })
+keeps_next f old new (Valued v x y cs vs) (lines.Cuts zero) t b pl e k h r a = subst (Keeps f new) (same_Some (awaits (record { version = v; patterns = x; rows = y; choice = cs; values = vs; cuts = [] }) zero) t h) (opening_same old new vs [] k a.measures a.pool)
+keeps_next f old new (Valued v x y cs vs) (lines.Cuts (suc n)) t b pl e k h r a = subst (Keeps f new) (same_Some (awaits (record { version = v; patterns = x; rows = y; choice = cs; values = vs; cuts = [] }) (suc n)) t h) (opening_same old new vs [] k a.measures a.pool)
+keeps_next f old new (Cutting o zero) (lines.Cut ps) t b pl e k h r a = subst (Keeps f new) (same_Some (Between (with_cut ps o) []) t h) (record { measures = a.measures ∙ k.measures; pool = a.pool ∙ ap (λ cuts. cuts ++ (ps ∷ [])) k.pool })
+keeps_next f old new (Cutting o (suc n)) (lines.Cut ps) t b pl e k h r a = subst (Keeps f new) (same_Some (Cutting (with_cut ps o) n) t h) (record { measures = a.measures ∙ k.measures; pool = a.pool ∙ ap (λ cuts. cuts ++ (ps ∷ [])) k.pool })
+keeps_next f old new (Between o ts) (lines.Level j) t b pl e k h r a =
     subst (Keeps f new) (cond_some (may_begin j ts) (Inside o ts [] 0) t h).1 (opening_same old new o.values o.cuts k a.measures a.pool, record { path = ap pending_of a.path; count = refl })
-keeps_next f old new (Between o ts) (lines.Unfinished j) t b e k h r a = subst (Keeps f new) (cond_some (may_begin j ts) (Loose o ts [] 0 false) t h).1 (opening_same old new o.values o.cuts k a.measures a.pool)
-keeps_next f old new (Between o ts) (lines.End j) t b e k h r a = subst (Keeps f new) (cond_some (j == length ts) (Over (with_levels o ts None)) t h).1 (opening_same old new o.values o.cuts k a.measures a.pool)
-keeps_next f old new (Inside o ts ns n) (lines.Node (Branch p)) t b e k h r a =
+keeps_next f old new (Between o ts) (lines.Unfinished j) t b pl e k h r a = subst (Keeps f new) (cond_some (may_begin j ts) (Loose o ts [] 0 false) t h).1 (opening_same old new o.values o.cuts k a.measures a.pool)
+keeps_next f old new (Between o ts) (lines.End j) t b pl e k h r a = subst (Keeps f new) (cond_some (j == length ts) (Over (with_levels o ts None)) t h).1 (opening_same old new o.values o.cuts k a.measures a.pool)
+keeps_next f old new (Inside o ts ns n) (lines.Node (Branch p)) t b pl e k h r a =
     let path = subst (λ q. NodeAfterIn q (Branch p) (path_of old.walk.path) (path_of new.walk.path)) e a.path in
     subst (Keeps f new) (same_Some (Inside o ts (ns ++ (Branch p ∷ [])) (suc n)) t h) (opening_same old new o.values o.cuts k.0 a.measures a.pool, path_branches old new ns n p k.1 path)
-keeps_next f old new (Inside o ts ns zero) (lines.Node (Closing leaf)) t b e k h r a =
+keeps_next f old new (Inside o ts ns zero) (lines.Node (Closing leaf)) t b pl e k h r a =
     subst (Keeps f new) (same_Some (Between o (ts ++ (tree_of (ns ++ (Closing leaf ∷ [])) ∷ []))) t h) (opening_same old new o.values o.cuts k.0 a.measures a.pool)
-keeps_next f old new (Inside o ts ns (suc n)) (lines.Node (Closing leaf)) t b e k h r a =
+keeps_next f old new (Inside o ts ns (suc n)) (lines.Node (Closing leaf)) t b pl e k h r a =
     let path = subst (λ q. NodeAfterIn q (Closing leaf) (path_of old.walk.path) (path_of new.walk.path)) e a.path in
     subst (Keeps f new) (same_Some (Inside o ts (ns ++ (Closing leaf ∷ [])) n) t h) (opening_same old new o.values o.cuts k.0 a.measures a.pool, path_turns old new ns n leaf k.1 path)
-keeps_next f old new (Loose o ts ns n seen) (lines.Node (Branch p)) t b e k h r a = subst (Keeps f new) (same_Some (Loose o ts (ns ++ (Branch p ∷ [])) (suc n) seen) t h) (opening_same old new o.values o.cuts k a.measures a.pool)
-keeps_next f old new (Loose o ts ns zero true) (lines.Node (Closing leaf)) t b e k h r a = subst (Keeps f new) (same_Some (After o ts (ns ++ (Closing leaf ∷ []))) t h) (opening_same old new o.values o.cuts k a.measures a.pool)
-keeps_next f old new (Loose o ts ns (suc n) seen) (lines.Node (Closing leaf)) t b e k h r a = subst (Keeps f new) (same_Some (Loose o ts (ns ++ (Closing leaf ∷ [])) n seen) t h) (opening_same old new o.values o.cuts k a.measures a.pool)
-keeps_next f old new (Loose o ts ns zero seen) (lines.Node OpenEnd) t b e k h r a = subst (Keeps f new) (same_Some (After o ts (ns ++ (OpenEnd ∷ []))) t h) (opening_same old new o.values o.cuts k a.measures a.pool)
-keeps_next f old new (Loose o ts ns (suc n) seen) (lines.Node OpenEnd) t b e k h r a = subst (Keeps f new) (same_Some (Loose o ts (ns ++ (OpenEnd ∷ [])) n true) t h) (opening_same old new o.values o.cuts k a.measures a.pool)
-keeps_next f old new (After o ts ns) (lines.End j) t b e k h r a = subst (Keeps f new) (cond_some (j == length ts) (Over (with_levels o ts (Some (tree_of ns)))) t h).1 (opening_same old new o.values o.cuts k a.measures a.pool)
-keeps_next f old new s l t b e k h r a = absurd (none-some t h)
+keeps_next f old new (Inside o ts ns n) (lines.Node (Same q)) t b pl e k h r a = absurd (true≢false (sym pl))
+keeps_next f old new (Loose o ts ns n seen) (lines.Node (Same q)) t b pl e k h r a = absurd (true≢false (sym pl))
+keeps_next f old new (Loose o ts ns n seen) (lines.Node (Branch p)) t b pl e k h r a = subst (Keeps f new) (same_Some (Loose o ts (ns ++ (Branch p ∷ [])) (suc n) seen) t h) (opening_same old new o.values o.cuts k a.measures a.pool)
+keeps_next f old new (Loose o ts ns zero true) (lines.Node (Closing leaf)) t b pl e k h r a = subst (Keeps f new) (same_Some (After o ts (ns ++ (Closing leaf ∷ []))) t h) (opening_same old new o.values o.cuts k a.measures a.pool)
+keeps_next f old new (Loose o ts ns (suc n) seen) (lines.Node (Closing leaf)) t b pl e k h r a = subst (Keeps f new) (same_Some (Loose o ts (ns ++ (Closing leaf ∷ [])) n seen) t h) (opening_same old new o.values o.cuts k a.measures a.pool)
+keeps_next f old new (Loose o ts ns zero seen) (lines.Node OpenEnd) t b pl e k h r a = subst (Keeps f new) (same_Some (After o ts (ns ++ (OpenEnd ∷ []))) t h) (opening_same old new o.values o.cuts k a.measures a.pool)
+keeps_next f old new (Loose o ts ns (suc n) seen) (lines.Node OpenEnd) t b pl e k h r a = subst (Keeps f new) (same_Some (Loose o ts (ns ++ (OpenEnd ∷ [])) n true) t h) (opening_same old new o.values o.cuts k a.measures a.pool)
+keeps_next f old new (After o ts ns) (lines.End j) t b pl e k h r a = subst (Keeps f new) (cond_some (j == length ts) (Over (with_levels o ts (Some (tree_of ns)))) t h).1 (opening_same old new o.values o.cuts k a.measures a.pool)
+keeps_next f old new s l t b pl e k h r a = absurd (none-some t h)
 
 -- ---- the whole step
 
@@ -157,8 +160,8 @@ no_fault line (Some r) h = absurd (none-some (record { line = line; reason = r }
 abbrev pub behind : Progress → Place → Progress
 behind p q = record { place = q; line = p.line + 1; measures = p.measures; pool = p.pool; walk = p.walk; fault = p.fault }
 
-stands_at : (f : Facts) (old new : Progress) (q : Place) (s : State) (l : CertLine) (t : State) → in_bounds l ≡ true → Stands f old s → Judges f old new l → step s l ≡ Some t → place_of t ≡ q → Stands f (behind new q) t
-stands_at f old new q s l t b stands judges e place =
+stands_at : (f : Facts) (old new : Progress) (q : Place) (s : State) (l : CertLine) (t : State) → in_bounds l ≡ true → is_plain l ≡ true → Stands f old s → Judges f old new l → step s l ≡ Some t → place_of t ≡ q → Stands f (behind new q) t
+stands_at f old new q s l t b pl stands judges e place =
     let adds : Adds f s t l old.line = subst (AddsTo f s l old.line) e (step_adds f s l old.line stands.line) in
     go old.fault refl adds
   where
@@ -174,7 +177,7 @@ stands_at f old new q s l t b stands judges e place =
           keeps = λ n.
               let right : reason_at f s l ≡ None = no_fault old.line (reason_at f s l) (sym first ∙ n) in
               let added = judges.added none (same ∙ right) in
-              keeps_next f old (behind new q) s l t b stands.place (stands.keeps none) e right (record { pool = added.pool; measures = added.measures; path = added.path });
+              keeps_next f old (behind new q) s l t b pl stands.place (stands.keeps none) e right (record { pool = added.pool; measures = added.measures; path = added.path });
         }
     go (Some found) some adds =
         let stays = judges.stays found some in
@@ -186,15 +189,15 @@ stands_at f old new q s l t b stands judges e place =
           keeps = λ n. absurd (none-some found (sym n ∙ stays));
         }
 
-pub stands_next : (f : Facts) (old new : Progress) (q : Place) (l : CertLine) → in_bounds l ≡ true → follows old.place l ≡ Some q → Judges f old new l → (s : State) → Stands f old s → Takes f (step s l) (behind new q) true
-stands_next f old new q l b comes judges s stands = go (step s l) refl
+pub stands_next : (f : Facts) (old new : Progress) (q : Place) (l : CertLine) → in_bounds l ≡ true → is_plain l ≡ true → follows old.place l ≡ Some q → Judges f old new l → (s : State) → Stands f old s → Takes f (step s l) (behind new q) true
+stands_next f old new q l b pl comes judges s stands = go (step s l) refl
   where
     counts : option_map place_of (step s l) ≡ Some q
     counts = step_counts s l ∙ ap (λ p. follows p l) (sym stands.place) ∙ comes
 
     go : (o : Option State) → step s l ≡ o → Takes f o (behind new q) true
     go None e = absurd (none-some q (ap (option_map place_of) (sym e) ∙ counts))
-    go (Some t) e = (refl, stands_at f old new q s l t b stands judges e (same_Some (place_of t) q (ap (option_map place_of) (sym e) ∙ counts)))
+    go (Some t) e = (refl, stands_at f old new q s l t b pl stands judges e (same_Some (place_of t) q (ap (option_map place_of) (sym e) ∙ counts)))
 
 -- a line that may not come
 pub stands_stops : (f : Facts) (old new : Progress) (l : CertLine) → follows old.place l ≡ None → (s : State) → Stands f old s → Takes f (step s l) new false

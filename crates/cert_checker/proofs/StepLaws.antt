@@ -4,7 +4,7 @@ use Rattle.std.specs.Prelude.{Option, Some, None, ◌==◌}
 use Rattle.std.specs.Option.{option_or}
 use Rattle.problem_core.specs.Facts.{Facts}
 use Rattle.duality.specs.declared.leaf.Node.{Node as SearchNode}
-use Rattle.duality.specs.declared.leaf.Node.TheVariants.{Branch, Leaf as Closing, OpenEnd}
+use Rattle.duality.specs.declared.leaf.Node.TheVariants.{Branch, Leaf as Closing, OpenEnd, Same}
 use Rattle.duality.specs.Packing.{Packing, Weights, Stage, Fixing}
 use Rattle.duality.specs.Tree.{nothing_fixed}
 use Rattle.cert_text.specs.declared.lines.Tree.{Tree}
@@ -111,12 +111,12 @@ inside_more f o ts ns n line e =
     ∙ sym (or_assoc (between_fault f o ts) block (at_line line reason))
 
 pub step_adds : (f : Facts) (s : State) (l : CertLine) (line : ℕ) → IsNextLine s line → AddsTo f s l line (step s l)
-step_adds f Begun lines.Head line e = record { fault = refl; next = omega (arith, e) }
-step_adds f Headed (lines.Sizes p r) line e = record { fault = ap (λ n. at_line n (reason_at f Headed (lines.Sizes p r))) (sym e); next = omega (arith, e) }
-step_adds f (Sized p r) (lines.Choice cs) line e = record { fault = ap (λ n. option_or (fault_in f (Sized p r)) (at_line n (reason_at f (Sized p r) (lines.Choice cs)))) (sym e); next = omega (arith, e) }
-step_adds f (Chosen p r cs) (lines.Values vs) line e = record { fault = ap (λ n. option_or (fault_in f (Chosen p r cs)) (at_line n (reason_at f (Chosen p r cs) (lines.Values vs)))) (sym e); next = omega (arith, e) }
-step_adds f (Valued p r cs vs) (lines.Cuts zero) line e = record { fault = or_none (option_or (valued_fault f p r cs vs) None); next = omega (arith, e) }
-step_adds f (Valued p r cs vs) (lines.Cuts (suc k)) line e = record { fault = refl; next = omega (arith, e) }
+step_adds f Begun (lines.Head v) line e = record { fault = refl; next = omega (arith, e) }
+step_adds f (Headed v) (lines.Sizes p r) line e = record { fault = ap (λ n. at_line n (reason_at f (Headed v) (lines.Sizes p r))) (sym e); next = omega (arith, e) }
+step_adds f (Sized v p r) (lines.Choice cs) line e = record { fault = ap (λ n. option_or (fault_in f (Sized v p r)) (at_line n (reason_at f (Sized v p r) (lines.Choice cs)))) (sym e); next = omega (arith, e) }
+step_adds f (Chosen v p r cs) (lines.Values vs) line e = record { fault = ap (λ n. option_or (fault_in f (Chosen v p r cs)) (at_line n (reason_at f (Chosen v p r cs) (lines.Values vs)))) (sym e); next = omega (arith, e) }
+step_adds f (Valued v p r cs vs) (lines.Cuts zero) line e = record { fault = or_none (option_or (valued_fault f p r cs vs) None); next = omega (arith, e) }
+step_adds f (Valued v p r cs vs) (lines.Cuts (suc k)) line e = record { fault = refl; next = omega (arith, e) }
 step_adds f (Cutting o zero) (lines.Cut ps) line e = record {
   fault = or_none (opening_fault f (with_cut ps o)) ∙ ap (λ x. option_or (valued_fault f o.patterns o.rows o.choice o.values) x) (cuts_more (packing f) o.cuts 6 ps)
       ∙ sym (or_assoc (valued_fault f o.patterns o.rows o.choice o.values) (cuts_fault (packing f) 6 o.cuts) (at_line (length o.cuts + 6) (cut_reason (packing f) ps)))
@@ -138,6 +138,13 @@ step_adds f (Inside o ts ns zero) (lines.Node (Closing leaf)) line e = record {
   next = omega (arith, e, levels_size-more ts (tree_of (ns ++ (Closing leaf ∷ []))), length-append ns (Closing leaf ∷ []));
 }
 step_adds f (Inside o ts ns (suc k)) (lines.Node (Closing leaf)) line e = record { fault = inside_more f o ts ns (Closing leaf) line e; next = omega (arith, e, length-append ns (Closing leaf ∷ [])) }
+step_adds f (Inside o ts ns zero) (lines.Node (Same q)) line e = record {
+  fault = between_more f o ts ns (Same q) ∙ ap (λ n. option_or (fault_in f (Inside o ts ns zero)) (at_line n (reason_at f (Inside o ts ns zero) (lines.Node (Same q))))) (sym e);
+  next = omega (arith, e, levels_size-more ts (tree_of (ns ++ (Same q ∷ []))), length-append ns (Same q ∷ []));
+}
+step_adds f (Inside o ts ns (suc k)) (lines.Node (Same q)) line e = record { fault = inside_more f o ts ns (Same q) line e; next = omega (arith, e, length-append ns (Same q ∷ [])) }
+step_adds f (Loose o ts ns zero true) (lines.Node (Same q)) line e = record { fault = no_reason (between_fault f o ts); next = tt }
+step_adds f (Loose o ts ns (suc k) seen) (lines.Node (Same q)) line e = record { fault = no_reason (between_fault f o ts); next = tt }
 step_adds f (Loose o ts ns k seen) (lines.Node (Branch p)) line e = record { fault = no_reason (between_fault f o ts); next = tt }
 step_adds f (Loose o ts ns zero true) (lines.Node (Closing leaf)) line e = record { fault = no_reason (between_fault f o ts); next = tt }
 step_adds f (Loose o ts ns (suc k) seen) (lines.Node (Closing leaf)) line e = record { fault = no_reason (between_fault f o ts); next = tt }

@@ -1,5 +1,5 @@
 -- The lines before the levels have no fault exactly where they are valid; so a certificate.
-use Rattle.std.proofs.Common.{ℕ, ◌≡◌, ◌≢◌, ◌<◌, ◌+◌, ◌-◌, arith, refl, sym, ◌∙◌, ap, zero, suc, Bool, true, false, not, ◌&&◌, List, [], ◌∷◌, ◌++◌, map, length, inl, inr}
+use Rattle.std.proofs.Common.{ℕ, ◌≡◌, ◌≢◌, ◌<◌, ◌+◌, ◌-◌, arith, refl, sym, ◌∙◌, ap, subst, zero, suc, Bool, true, false, not, ◌&&◌, List, [], ◌∷◌, ◌++◌, map, length, inl, inr}
 use Rattle.std.specs.Prelude.{ℤ, pos, negsuc, Option, Some, None, if◌then◌else◌, ◌==◌, ◌^◌, ◌⊎◌, nat_lt, nat_le, int_le, slice_index_or}
 use Rattle.std.specs.List.{list_all}
 use Rattle.std.proofs.lemmas.Bool.{true≢false, cases_eq, and_parts, and_from, or_left, or_right, or_cases, or_from, eq-eqb, eqb-true, ne_eqb, ltb-true, lt-ltb, le-leb, not-true, not-false, not_from_false}
@@ -15,17 +15,21 @@ use Rattle.duality.specs.Packing.{Packing}
 use Rattle.duality.specs.Tree.{proves_level}
 use Rattle.cert_text.specs.declared.lines.Tree.{Tree}
 use Rattle.cert_text.specs.declared.lines.CertLine.{CertLine}
-use Rattle.cert_text.specs.declared.lines.CertLine.TheVariants.{Sizes, Choice, Values, Cuts, Cut, Level, Node, End}
+use Rattle.cert_text.specs.declared.lines.CertLine.TheVariants.{Head, Sizes, Choice, Values, Cuts, Cut, Level, Node, End}
 use Rattle.cert_text.specs.declared.lines.Certificate.{Certificate}
 use Rattle.cert_text.specs.Spelling.{in_bounds, scale_in_bounds, term_in_bounds}
 use Rattle.duality.specs.Sums.{rises, is_small}
 use Rattle.cert_text.specs.Grammar.{Opening, opening_of, blocks, open_block, lines_of, is_closed_tree, is_open_tree, fits_count, is_shaped, is_writable}
+use Rattle.cert_text.specs.Sharing.{plain}
+use Rattle.cert_text.proofs.TextLaws.{writable_is}
+use Rattle.cert_text.proofs.ShareLaws.{is_name, no_names, none_in, plain_count, plain_writable}
+use Rattle.cert_text.proofs.PlainLaws.{no_names_of}
 use Rattle.meeting_patterns.specs.Pattern.{patterns_of}
 use Rattle.packing_model.specs.Built.{packing, measured, rows_of}
 use Rattle.packing_model.specs.Cuts.{first_clear_of, pair_with, first_apart}
 use Rattle.cert_checker.specs.declared.verdict.Reason.TheVariants as reasons
 use Rattle.cert_checker.specs.Faults.{at_line, sizes_reason, entry_fits, is_legal, choice_reason, values_reason, unknown_reason, apart_reason, cut_reason, cuts_fault, sized_fault, chosen_fault, valued_fault, opening_fault, levels_fault, first_level_line, fault_of, stage_for}
-use Rattle.cert_checker.specs.Verdicts.{IsClique, IsValid, tree_at}
+use Rattle.cert_checker.specs.Verdicts.{IsClique, IsValidPlain, IsValid, tree_at}
 use Rattle.cert_checker.proofs.FaultLaws.{clean, clean-is, clean-or, clean-at, Faultless, is_natural, is_sound_tree, all_prove, levels_clean, prove_at, from_each}
 
 any_none : (test : ℕ → Bool) (n : ℕ) → ((i : ℕ) → i < n → test i ≡ false) → any_below test n ≡ false
@@ -196,45 +200,48 @@ cuts_from k (ps ∷ cuts) h = and_from (is_clique k ps) (list_all (is_clique k) 
 
 -- ---- what the bounds of a text give
 
-node_natural : (n : SearchNode) → in_bounds (Node n) ≡ true → is_natural n ≡ true
-node_natural (Branch p) h = refl
-node_natural OpenEnd h = refl
-node_natural (Same leaf) h = absurd (true≢false (sym h))
-node_natural (Closing leaf) h = go leaf.scale (and_parts (scale_in_bounds leaf.scale) (nat_le (length leaf.terms) 5005 && (list_all term_in_bounds leaf.terms && rises leaf.terms)) h).0
+node_natural : (n : SearchNode) → in_bounds (Node n) ≡ true → is_name n ≡ false → is_natural n ≡ true
+node_natural (Branch p) h e = refl
+node_natural OpenEnd h e = refl
+node_natural (Same q) h e = absurd (true≢false e)
+node_natural (Closing leaf) h e = go leaf.scale (and_parts (scale_in_bounds leaf.scale) (nat_le (length leaf.terms) 5005 && (list_all term_in_bounds leaf.terms && rises leaf.terms)) h).0
   where
     go : (z : ℤ) → scale_in_bounds z ≡ true → int_le (pos 0) z ≡ true
     go (pos n) e = le-leb 0 n (omega arith)
     go (negsuc n) e = absurd (true≢false (sym e))
 
-nodes_natural : (ns : List SearchNode) → list_all in_bounds (map Node ns) ≡ true → list_all is_natural ns ≡ true
-nodes_natural [] h = refl
-nodes_natural (n ∷ ns) h =
+nodes_natural : (ns : List SearchNode) → list_all in_bounds (map Node ns) ≡ true → no_names ns ≡ true → list_all is_natural ns ≡ true
+nodes_natural [] h e = refl
+nodes_natural (n ∷ ns) h e =
     let parts = and_parts (in_bounds (Node n)) (list_all in_bounds (map Node ns)) h in
-    and_from (is_natural n) (list_all is_natural ns) (node_natural n parts.0) (nodes_natural ns parts.1)
+    let none = and_parts (not (is_name n)) (no_names ns) e in
+    and_from (is_natural n) (list_all is_natural ns) (node_natural n parts.0 (not-true (is_name n) none.0)) (nodes_natural ns parts.1 none.1)
 
 all_append : (xs ys : List CertLine) → list_all in_bounds (xs ++ ys) ≡ true → (list_all in_bounds xs ≡ true) × (list_all in_bounds ys ≡ true)
 all_append xs ys h = and_parts (list_all in_bounds xs) (list_all in_bounds ys) (sym (list_all-append in_bounds xs ys) ∙ h)
 
-blocks_sound : (ts : List Tree) (n : ℕ) → list_all in_bounds (blocks n ts) ≡ true → list_all is_closed_tree ts ≡ true → list_all is_sound_tree ts ≡ true
-blocks_sound [] n h c = refl
-blocks_sound (t ∷ ts) n h c =
+blocks_sound : (ts : List Tree) (n : ℕ) → list_all in_bounds (blocks n ts) ≡ true → list_all is_closed_tree ts ≡ true → none_in ts ≡ true → list_all is_sound_tree ts ≡ true
+blocks_sound [] n h c e = refl
+blocks_sound (t ∷ ts) n h c e =
     let line = and_parts (in_bounds (Level (n + 1))) (list_all in_bounds (map Node t.nodes ++ blocks (n + 1) ts)) h in
     let parts = all_append (map Node t.nodes) (blocks (n + 1) ts) line.1 in
     let closed = and_parts (is_closed_tree t) (list_all is_closed_tree ts) c in
+    let none = and_parts (no_names t.nodes) (none_in ts) e in
     and_from (is_sound_tree t) (list_all is_sound_tree ts)
-    (and_from (is_closed_tree t) (list_all is_natural t.nodes) closed.0 (nodes_natural t.nodes parts.0)) (blocks_sound ts (n + 1) parts.1 closed.1)
+    (and_from (is_closed_tree t) (list_all is_natural t.nodes) closed.0 (nodes_natural t.nodes parts.0 none.0)) (blocks_sound ts (n + 1) parts.1 closed.1 none.1)
 
 pub record Bounds (c : Certificate) : Type 0 where
   pub six : length c.values ≡ 6
   pub sound : list_all is_sound_tree c.levels ≡ true
 
-pub bounds_of : (c : Certificate) → is_writable c ≡ true → Bounds c
-bounds_of c h =
-    let parts = and_parts (is_shaped c) (list_all in_bounds (lines_of c)) h in
-    let shape = and_parts (fits_count (length c.levels) c.unfinished) (list_all is_closed_tree c.levels && is_open_tree c.unfinished) parts.0 in
+pub bounds_of : (c : Certificate) → is_writable c ≡ true → c.version ≡ 1 → Bounds c
+bounds_of c h v =
+    let parts = writable_is c h in
+    let shape = and_parts (fits_count (length c.levels) c.unfinished) (list_all is_closed_tree c.levels && is_open_tree c.unfinished) parts.shaped in
     let trees = and_parts (list_all is_closed_tree c.levels) (is_open_tree c.unfinished) shape.1 in
     let rest = blocks 0 c.levels ++ (open_block (length c.levels) c.unfinished ++ (End (length c.levels) ∷ [])) in
-    let sizes = and_parts (in_bounds (Sizes c.patterns c.rows)) (list_all in_bounds (Choice c.choice ∷ (Values c.values ∷ (Cuts (length c.cuts) ∷ (map Cut c.cuts ++ rest))))) parts.1 in
+    let head = and_parts (in_bounds (Head c.version)) (list_all in_bounds (Sizes c.patterns c.rows ∷ (Choice c.choice ∷ (Values c.values ∷ (Cuts (length c.cuts) ∷ (map Cut c.cuts ++ rest)))))) parts.bounded in
+    let sizes = and_parts (in_bounds (Sizes c.patterns c.rows)) (list_all in_bounds (Choice c.choice ∷ (Values c.values ∷ (Cuts (length c.cuts) ∷ (map Cut c.cuts ++ rest))))) head.1 in
     let choice = and_parts (in_bounds (Choice c.choice)) (list_all in_bounds (Values c.values ∷ (Cuts (length c.cuts) ∷ (map Cut c.cuts ++ rest)))) sizes.1 in
     let values = and_parts (in_bounds (Values c.values)) (list_all in_bounds (Cuts (length c.cuts) ∷ (map Cut c.cuts ++ rest))) choice.1 in
     let cuts = and_parts (in_bounds (Cuts (length c.cuts))) (list_all in_bounds (map Cut c.cuts ++ rest)) values.1 in
@@ -242,7 +249,7 @@ bounds_of c h =
     let levels = all_append (blocks 0 c.levels) (open_block (length c.levels) c.unfinished ++ (End (length c.levels) ∷ [])) behind.1 in
     record {
       six = eqb-true (length c.values) 6 (and_parts (length c.values == 6) (list_all (is_small (10 ^ 12)) c.values) values.0).0;
-      sound = blocks_sound c.levels 0 levels.0 trees.0;
+      sound = blocks_sound c.levels 0 levels.0 trees.0 (no_names_of c h v);
     }
 
 -- ---- the whole
@@ -263,10 +270,10 @@ opening_clean f o = clean-or (valued_fault f o.patterns o.rows o.choice o.values
 abbrev six_measures : (f : Facts) (a : List ℕ) → length (measures f a) ≡ 6
 six_measures f a = refl
 
-pub valid_is : Faultless → (f : Facts) (c : Certificate) → is_writable c ≡ true → fault_of f c ≡ None → IsValid f (length c.levels) c
-valid_is law f c w h =
+pub valid_is : Faultless → (f : Facts) (c : Certificate) → is_writable c ≡ true → c.version ≡ 1 → fault_of f c ≡ None → IsValidPlain f (length c.levels) c
+valid_is law f c w version h =
     let o = opening_of c in
-    let bounds = bounds_of c w in
+    let bounds = bounds_of c w version in
     let whole = and_parts (clean (opening_fault f o)) (clean (levels_fault f o (first_level_line o) 1 c.levels)) (sym (clean-or (opening_fault f o) (levels_fault f o (first_level_line o) 1 c.levels)) ∙ ap clean h) in
     let opening = and_parts (clean (valued_fault f o.patterns o.rows o.choice o.values)) (list_all (is_clique (packing f)) o.cuts) (sym (opening_clean f o) ∙ whole.0) in
     let valued = and_parts (clean (chosen_fault f o.patterns o.rows o.choice)) (not (any_below (differ_at o.values (measures f o.choice)) 6)) (sym (valued_clean f o.patterns o.rows o.choice o.values) ∙ opening.0) in
@@ -285,10 +292,10 @@ valid_is law f c w h =
           ap (λ j. proves_level (packing f) (measured f) (stage_for o j) (tree_at c.levels (k - 1)).nodes) (sym same) ∙ prove_at f o c.levels 1 (k - 1) trees (omega arith);
     }
 
-pub valid_from : Faultless → (f : Facts) (c : Certificate) → is_writable c ≡ true → IsValid f (length c.levels) c → fault_of f c ≡ None
-valid_from law f c w v =
+pub valid_from : Faultless → (f : Facts) (c : Certificate) → is_writable c ≡ true → c.version ≡ 1 → IsValidPlain f (length c.levels) c → fault_of f c ≡ None
+valid_from law f c w version v =
     let o = opening_of c in
-    let bounds = bounds_of c w in
+    let bounds = bounds_of c w version in
     let sized : clean (sized_fault f o.patterns o.rows) ≡ true = sized_clean f o.patterns o.rows ∙ and_from (o.patterns == length (patterns_of f)) (o.rows == length (rows_of f)) (eq-eqb o.patterns (length (patterns_of f)) v.patterns) (eq-eqb o.rows (length (rows_of f)) v.rows) in
     let chosen : clean (chosen_fault f o.patterns o.rows o.choice) ≡ true = chosen_clean f o.patterns o.rows o.choice ∙ and_from (clean (sized_fault f o.patterns o.rows)) (is_legal f o.choice) sized (legal_from f o.choice v.legal) in
     let valued : clean (valued_fault f o.patterns o.rows o.choice o.values) ≡ true = valued_clean f o.patterns o.rows o.choice o.values
@@ -299,3 +306,11 @@ valid_from law f c w v =
     ap (λ j. proves_level (packing f) (measured f) (stage_for o (1 + i)) (tree_at c.levels j).nodes) (sym same) ∙ v.trees (1 + i) (omega arith) (omega arith)) in
     clean-is (fault_of f c) (clean-or (opening_fault f o) (levels_fault f o (first_level_line o) 1 c.levels)
     ∙ and_from (clean (opening_fault f o)) (clean (levels_fault f o (first_level_line o) 1 c.levels)) opening (levels_clean law f o c.levels (first_level_line o) 1 bounds.sound ∙ trees))
+
+-- ---- a certificate and its plain form
+
+pub form_is : Faultless → (f : Facts) (c : Certificate) → is_writable c ≡ true → fault_of f (plain c) ≡ None → IsValid f (length c.levels) c
+form_is law f c w h = subst (λ n. IsValidPlain f n (plain c)) (plain_count c.levels []) (valid_is law f (plain c) (plain_writable c w) refl h)
+
+pub form_from : Faultless → (f : Facts) (c : Certificate) → is_writable c ≡ true → IsValid f (length c.levels) c → fault_of f (plain c) ≡ None
+form_from law f c w v = valid_from law f (plain c) (plain_writable c w) refl (subst (λ n. IsValidPlain f n (plain c)) (sym (plain_count c.levels [])) v)

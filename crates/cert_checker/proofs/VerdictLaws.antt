@@ -23,6 +23,8 @@ use Rattle.cert_text.specs.declared.lines.Certificate.{Certificate}
 use Rattle.cert_text.specs.Spelling.{in_bounds}
 use Rattle.cert_text.specs.Grammar.{Opening, opening_of, lines_of, fits_count, is_closed_tree, is_open_tree, is_shaped, is_writable}
 use Rattle.cert_text.specs.Text.{IsText, IsFaultyLine, certificate_of}
+use Rattle.cert_text.specs.Sharing.{plain as plain_form}
+use Rattle.cert_text.proofs.TextLaws.{writable_is}
 use Rattle.cert_checker.specs.declared.verdict.Reason.{Reason}
 use Rattle.cert_checker.specs.declared.verdict.Reason.TheVariants as reasons
 use Rattle.cert_checker.specs.declared.verdict.Found.{Found}
@@ -127,13 +129,12 @@ pub record TextLaws (bytes : List ℕ) : Type 0 where
   pub one : (c d : Certificate) → IsText bytes c → IsText bytes d → c ≡ d
 
 pub record CertificateLaws (f : Facts) : Type 0 where
-  pub faultless : (c : Certificate) → is_writable c ≡ true → fault_of f c ≡ None ↔ IsValid f (length c.levels) c
+  pub faultless : (c : Certificate) → is_writable c ≡ true → fault_of f (plain_form c) ≡ None ↔ IsValid f (length c.levels) c
   pub best : (n : ℕ) (c : Certificate) → n ≤ 6 → IsValid f n c → IsBest f n c.choice
 
 few_levels : (c : Certificate) → is_writable c ≡ true → length c.levels ≤ 6
 few_levels c h =
-    let parts = and_parts (is_shaped c) (list_all in_bounds (lines_of c)) h in
-    go c.unfinished (and_parts (fits_count (length c.levels) c.unfinished) (list_all is_closed_tree c.levels && is_open_tree c.unfinished) parts.0).0
+    go c.unfinished (and_parts (fits_count (length c.levels) c.unfinished) (list_all is_closed_tree c.levels && is_open_tree c.unfinished) (writable_is c h).shaped).0
   where
     go : (u : Option Tree) → fits_count (length c.levels) u ≡ true → length c.levels ≤ 6
     go None e = omega (arith, ltb-true (length c.levels) 7 e)
@@ -149,7 +150,7 @@ err_ok {A} {B} x y e = true≢false (sym (ap is_good e))
 pub verdict_means : (f : Facts) (bytes : List ℕ) → TextLaws bytes → CertificateLaws f → Means f bytes (verdict_of f (certificate_of bytes))
 verdict_means f bytes text laws = go (certificate_of bytes) refl
   where
-    whole : (c : Certificate) (o : Option Found) → certificate_of bytes ≡ Ok c → fault_of f c ≡ o → Means f bytes (judged (length c.levels) c.values o)
+    whole : (c : Certificate) (o : Option Found) → certificate_of bytes ≡ Ok c → fault_of f (plain_form c) ≡ o → Means f bytes (judged (length c.levels) c.values o)
     whole c None e clear =
         let is = text.spelled c e in
         let valid = (laws.faultless c is.bounded).0 clear in
@@ -157,11 +158,11 @@ verdict_means f bytes text laws = go (certificate_of bytes) refl
     whole c (Some found) e bad = (
       λ d is valid.
           let same : d ≡ c = text.one d c is (text.spelled c e) in
-          let none : fault_of f d ≡ None = (laws.faultless d is.bounded).1 valid in
-          none-some found (sym none ∙ ap (fault_of f) same ∙ bad),
-      λ t. absurd (no_text f c found bad t),
+          let none : fault_of f (plain_form d) ≡ None = (laws.faultless d is.bounded).1 valid in
+          none-some found (sym none ∙ ap (λ x. fault_of f (plain_form x)) same ∙ bad),
+      λ t. absurd (no_text f (plain_form c) found bad t),
     )
 
     go : (r : Result Certificate ℕ) → certificate_of bytes ≡ r → Means f bytes (verdict_of f r)
     go (Err n) e = (λ d is valid. err_ok d n (sym e ∙ text.read d is), λ t. text.faulty n e)
-    go (Ok c) e = whole c (fault_of f c) e refl
+    go (Ok c) e = whole c (fault_of f (plain_form c)) e refl

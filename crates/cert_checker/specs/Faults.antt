@@ -76,7 +76,7 @@ leaf_reason (Some (faults.Sign at)) = Some reasons.Sign
 leaf_reason (Some (faults.Cost p)) = Some (reasons.Cost p)
 leaf_reason (Some faults.Bound) = Some reasons.Bound
 
--- a finished tree has no open end, and no text of this version names an earlier leaf
+-- a finished tree has no open end; a node that names an earlier leaf is looked at as the leaf
 abbrev pub node_reason : Packing → Weights → Stage → Fixing → SearchNode → Option Reason
 node_reason k w s f (Branch p) = branch_reason k f p
 node_reason k w s f (Closing leaf) = leaf_reason (leaf_fault k w s f leaf)
@@ -128,6 +128,6 @@ first_level_line o = length o.cuts + 6
 abbrev pub between_fault : Facts → Opening → List Tree → Option Found
 between_fault f o ts = option_or (opening_fault f o) (levels_fault f o (first_level_line o) 1 ts)
 
--- the first fault of the certificate; what is unfinished has none
+-- the first fault of a certificate without named leaves; what is unfinished has none
 abbrev pub fault_of : Facts → Certificate → Option Found
 fault_of f c = between_fault f (opening_of c) c.levels

@@ -13,10 +13,13 @@ use Rattle.cert_text.specs.declared.lines.CertLine.{CertLine}
 use Rattle.cert_text.specs.declared.lines.CertLine.TheVariants as lines
 use Rattle.cert_text.specs.declared.place.Place.{Place}
 use Rattle.cert_text.specs.declared.place.Place.TheVariants as places
-use Rattle.cert_text.specs.Grammar.{State}
+use Rattle.cert_text.specs.Grammar.{State, runs}
 use Rattle.cert_text.specs.Grammar.State.{Begun, Headed, Sized, Chosen, Valued, Cutting, Between, Inside, Loose, After, Over}
 use Rattle.cert_text.specs.Places.{place_of, count_of, wanted_of}
-use Rattle.cert_text.specs.Text.{read_from, certificate_of}
+use Rattle.std.specs.List.{list_all}
+use Rattle.cert_text.specs.Spelling.{in_bounds}
+use Rattle.cert_text.specs.Sharing.{none_named, all_named, plain_lines, are_leaf_lines}
+use Rattle.cert_text.specs.Text.{Standing, read_from, certificate_of}
 use Rattle.packing_model.specs.Built.{packing, measured}
 use Rattle.packing_model.specs.Cuts.{IsPoolOf}
 use Rattle.duality.specs.After.{after}
@@ -27,6 +30,7 @@ use Rattle.cert_checker.specs.Trees.{NodeAfter}
 use Rattle.cert_checker.specs.declared.verdict.Reason.{Reason}
 use Rattle.cert_checker.specs.declared.verdict.Found.{Found}
 use Rattle.cert_checker.specs.declared.progress.Progress.{Progress}
+use Rattle.cert_checker.specs.declared.reading.Reading.{Reading}
 
 -- the lines of finished levels
 abbrev pub levels_size : List Tree → ℕ
@@ -36,10 +40,10 @@ levels_size (t ∷ ts) = length t.nodes + 1 + levels_size ts
 -- the first fault of what was read
 abbrev pub fault_in : Facts → State → Option Found
 fault_in f Begun = None
-fault_in f Headed = None
-fault_in f (Sized p r) = sized_fault f p r
-fault_in f (Chosen p r cs) = chosen_fault f p r cs
-fault_in f (Valued p r cs vs) = valued_fault f p r cs vs
+fault_in f (Headed v) = None
+fault_in f (Sized v p r) = sized_fault f p r
+fault_in f (Chosen v p r cs) = chosen_fault f p r cs
+fault_in f (Valued v p r cs vs) = valued_fault f p r cs vs
 fault_in f (Cutting o k) = opening_fault f o
 fault_in f (Between o ts) = between_fault f o ts
 fault_in f (Inside o ts ns k) = option_or (between_fault f o ts) (block_fault f o (first_level_line o + levels_size ts + 1) (1 + length ts) ns)
@@ -49,9 +53,9 @@ fault_in f (Over c) = fault_of f c
 
 -- the reason of a line that may come
 abbrev pub reason_at : Facts → State → CertLine → Option Reason
-reason_at f Headed (lines.Sizes p r) = sizes_reason f p r
-reason_at f (Sized p r) (lines.Choice cs) = choice_reason f cs
-reason_at f (Chosen p r cs) (lines.Values vs) = values_reason (measures f cs) vs
+reason_at f (Headed v) (lines.Sizes p r) = sizes_reason f p r
+reason_at f (Sized v p r) (lines.Choice cs) = choice_reason f cs
+reason_at f (Chosen v p r cs) (lines.Values vs) = values_reason (measures f cs) vs
 reason_at f (Cutting o k) (lines.Cut ps) = cut_reason (packing f) ps
 reason_at f (Inside o ts ns k) (lines.Node n) = next_reason (packing f) (measured f) (stage_for o (1 + length ts)) (after (nothing_fixed ∷ []) ns) n
 reason_at f s l = None
@@ -59,10 +63,10 @@ reason_at f s l = None
 -- the number of the next line; nothing follows the end
 abbrev pub IsNextLine : State → ℕ → Type 0
 IsNextLine Begun line = line ≡ 1
-IsNextLine Headed line = line ≡ 2
-IsNextLine (Sized p r) line = line ≡ 3
-IsNextLine (Chosen p r cs) line = line ≡ 4
-IsNextLine (Valued p r cs vs) line = line ≡ 5
+IsNextLine (Headed v) line = line ≡ 2
+IsNextLine (Sized v p r) line = line ≡ 3
+IsNextLine (Chosen v p r cs) line = line ≡ 4
+IsNextLine (Valued v p r cs vs) line = line ≡ 5
 IsNextLine (Cutting o k) line = line ≡ length o.cuts + 6
 IsNextLine (Between o ts) line = line ≡ first_level_line o + levels_size ts
 IsNextLine (Inside o ts ns k) line = line ≡ first_level_line o + levels_size ts + 1 + length ns
@@ -81,10 +85,10 @@ pub record KeepsPath (p : Progress) (ns : List SearchNode) (k : ℕ) : Type 0 wh
 -- what is kept while there is no fault
 abbrev pub Keeps : Facts → Progress → State → Type 0
 Keeps f p Begun = p.pool ≡ []
-Keeps f p Headed = p.pool ≡ []
-Keeps f p (Sized a b) = p.pool ≡ []
-Keeps f p (Chosen a b cs) = KeepsOpening p (measures f cs) []
-Keeps f p (Valued a b cs vs) = KeepsOpening p vs []
+Keeps f p (Headed v) = p.pool ≡ []
+Keeps f p (Sized v a b) = p.pool ≡ []
+Keeps f p (Chosen v a b cs) = KeepsOpening p (measures f cs) []
+Keeps f p (Valued v a b cs vs) = KeepsOpening p vs []
 Keeps f p (Cutting o k) = KeepsOpening p o.values o.cuts
 Keeps f p (Between o ts) = KeepsOpening p o.values o.cuts
 Keeps f p (Inside o ts ns k) = KeepsOpening p o.values o.cuts × KeepsPath p ns k
@@ -92,7 +96,7 @@ Keeps f p (Loose o ts ns k seen) = KeepsOpening p o.values o.cuts
 Keeps f p (After o ts ns) = KeepsOpening p o.values o.cuts
 Keeps f p (Over c) = KeepsOpening p c.values c.cuts
 
--- the progress is that of a state of the text
+-- the progress is that of a state of what the lines mean
 pub record Stands (f : Facts) (p : Progress) (s : State) : Type 0 where
   pub place : p.place ≡ place_of s
   pub line : IsNextLine s p.line
@@ -212,8 +216,32 @@ abbrev pub Takes : Facts → Option State → Progress → Bool → Type 0
 Takes f None p ok = ok ≡ false
 Takes f (Some t) p ok = (ok ≡ true) × Stands f p t
 
--- what is left to read, from where the progress stands
-pub record IsReading (f : Facts) (p : Progress) (texts : List (List ℕ)) (rest bytes : List ℕ) : Type 0 where
-  pub state : State
-  pub stands : Stands f p state
-  pub read : read_from state p.line texts rest ≡ certificate_of bytes
+-- ---- lines that name leaves
+
+-- what is kept is that of the text so far: the leaf lines that may be named, and the progress of what the lines mean
+pub record IsAt (f : Facts) (r : Reading) (t : Standing) : Type 0 where
+  pub lines : List CertLine
+  pub ran : runs Begun lines ≡ Some t.state
+  pub names : all_named (none_named 0) lines ≡ Some t.named
+  pub bounded : list_all in_bounds lines ≡ true
+  pub plain : State
+  pub plain_ran : runs Begun (plain_lines (none_named 0) lines) ≡ Some plain
+  pub place : place_of t.state ≡ place_of plain
+  pub stands : Stands f r.progress plain
+  pub named : r.named ≡ t.named
+
+-- whatever was read
+pub record IsSound (f : Facts) (r : Reading) : Type 0 where
+  pub progress : IsProgress f r.progress
+  pub named : are_leaf_lines r.named.lines ≡ true
+
+-- whether a line was taken, and what is kept behind it
+abbrev pub TakesLine : Facts → Option Standing → Reading → Bool → Type 0
+TakesLine f None r ok = ok ≡ false
+TakesLine f (Some t) r ok = (ok ≡ true) × IsAt f r t
+
+-- what is left to read, from where the reading stands
+pub record IsReading (f : Facts) (r : Reading) (texts : List (List ℕ)) (rest bytes : List ℕ) : Type 0 where
+  pub standing : Standing
+  pub at : IsAt f r standing
+  pub read : read_from standing r.progress.line texts rest ≡ certificate_of bytes

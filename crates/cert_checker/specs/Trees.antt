@@ -14,7 +14,8 @@ pub record IsLeafWithin (leaf : Leaf) : Type 0 where
   pub rising : rises leaf.terms ≡ true
   pub small : are_small leaf.terms ≡ true
 
--- only leaves have bounds; whether a branch's pattern is there is judged. None names an earlier leaf
+-- only leaves have bounds; whether a branch's pattern is there is judged. None names an earlier leaf: it is judged
+-- as that leaf
 abbrev pub IsNodeWithin : SearchNode → Type 0
 IsNodeWithin (Branch p) = Unit {0}
 IsNodeWithin (Closing leaf) = IsLeafWithin leaf

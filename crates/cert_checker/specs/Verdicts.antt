@@ -11,6 +11,7 @@ use Rattle.packing_model.specs.Built.{rows_of, packing, measured}
 use Rattle.cert_text.specs.declared.lines.Tree.{Tree}
 use Rattle.cert_text.specs.declared.lines.Certificate.{Certificate}
 use Rattle.cert_text.specs.Grammar.{opening_of, tree_of}
+use Rattle.cert_text.specs.Sharing.{plain}
 use Rattle.cert_text.specs.Text.{IsText, IsFaultyLine}
 use Rattle.cert_checker.specs.declared.verdict.Reason.TheVariants as reasons
 use Rattle.cert_checker.specs.declared.verdict.Found.{Found}
@@ -26,8 +27,8 @@ pub record IsClique (k : Packing) (ps : List ℕ) : Type 0 where
 abbrev pub tree_at : List Tree → ℕ → Tree
 tree_at ts i = slice_index_or ts i (tree_of [])
 
--- the certificate proves n levels of the problem; nothing is asked of an unfinished tree
-pub record IsValid (f : Facts) (n : ℕ) (c : Certificate) : Type 0 where
+-- a certificate without named leaves proves n levels of the problem; nothing is asked of an unfinished tree
+pub record IsValidPlain (f : Facts) (n : ℕ) (c : Certificate) : Type 0 where
   pub finished : length c.levels ≡ n
   pub patterns : c.patterns ≡ length (patterns_of f)
   pub rows : c.rows ≡ length (rows_of f)
@@ -36,14 +37,24 @@ pub record IsValid (f : Facts) (n : ℕ) (c : Certificate) : Type 0 where
   pub cuts : (i : ℕ) → i < length c.cuts → IsClique (packing f) (slice_index_or c.cuts i [])
   pub trees : (k : ℕ) → 1 ≤ k → k ≤ n → proves_level (packing f) (Rattle.packing_model.specs.Built.measured f) (stage_for (opening_of c) k) (tree_at c.levels (k - 1)).nodes ≡ true
 
+-- a certificate proves n levels where its plain form does, in which each named leaf stands where it is named
+abbrev pub IsValid : Facts → ℕ → Certificate → Type 0
+IsValid f n c = IsValidPlain f n (plain c)
+
 abbrev pub judged : ℕ → List ℤ → Option Found → Verdict
 judged levels values None = Verified levels values
 judged levels values (Some found) = Not found.line found.reason
 
--- the verdict: a fault of the text, whatever else is wrong; else the first fault of the lines
+-- the verdict on what the lines mean
+abbrev pub plain_verdict : Facts → Result Certificate ℕ → Verdict
+plain_verdict f (Err line) = Not line reasons.Text
+plain_verdict f (Ok c) = judged (length c.levels) c.values (fault_of f c)
+
+-- the verdict: a fault of the text, whatever else is wrong; else the first fault of the lines, where a line that
+-- names a leaf is looked at as the leaf; so the plain form has its faults at the same lines
 abbrev pub verdict_of : Facts → Result Certificate ℕ → Verdict
 verdict_of f (Err line) = Not line reasons.Text
-verdict_of f (Ok c) = judged (length c.levels) c.values (fault_of f c)
+verdict_of f (Ok c) = judged (length c.levels) c.values (fault_of f (plain c))
 
 -- the bytes are the text of a valid certificate of these values, whose choice is best in its levels
 pub record IsProof (f : Facts) (bytes : List ℕ) (levels : ℕ) (values : List ℤ) : Type 0 where

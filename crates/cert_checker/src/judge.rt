@@ -3,7 +3,7 @@ ghost use Rattle.cert_text.specs.Text.{certificate_of};
 ghost use Rattle.cert_checker.specs.Verdicts.{verdict_of, Means};
 
 use crate::laws::certificate_laws;
-use crate::progress::Progress;
+use crate::reading::Reading;
 use crate::verdict::{Reason, Verdict};
 use cert_text::{next_line, text_laws};
 use packing_model::Model;
@@ -28,11 +28,11 @@ pub fn check(alloc: Global, model: &Model, bytes: &[u8]) -> Result<Verdict, Memo
 fn judge(alloc: Global, model: &Model, bytes: &[u8]) -> Result<Verdict, Memory>
     ensures { IfOk result (λ v. v ≡ verdict_of model.now (certificate_of bytes.now)) }
 {
-    let mut progress = Progress::new(alloc);
+    let mut reading = Reading::new(alloc);
     let mut rest = bytes;
     'lines: while let Some((line, after)) = next_line(rest) {
-        let number = progress.line;
-        if !progress.take_bytes(alloc, model, line)? {
+        let number = reading.progress.line;
+        if !reading.take_bytes(alloc, model, line)? {
             return Ok(Verdict::Not {
                 line: number,
                 reason: Reason::Text,
@@ -40,5 +40,5 @@ fn judge(alloc: Global, model: &Model, bytes: &[u8]) -> Result<Verdict, Memory>
         }
         rest = after;
     }
-    Ok(progress.finish(rest))
+    Ok(reading.finish(rest))
 }

@@ -5,6 +5,7 @@
 mod judge;
 mod laws;
 mod progress;
+mod reading;
 mod tree;
 mod verdict;
 

@@ -7,22 +7,23 @@ ghost use Rattle.cert_text.specs.Grammar.State.{Begun};
 ghost use Rattle.cert_text.specs.Spelling.{in_bounds};
 ghost use Rattle.packing_model.specs.Built.{packing, measured};
 ghost use Rattle.cert_checker.specs.Faults.{sizes_reason, values_reason, node_reason, unknown_reason};
-ghost use Rattle.cert_text.specs.Text.{takes, read_end};
-ghost use Rattle.cert_checker.specs.Verdicts.{judged, verdict_of};
+ghost use Rattle.cert_text.specs.Sharing.{is_plain};
+ghost use Rattle.cert_text.specs.Text.{read_end};
+ghost use Rattle.cert_checker.specs.Verdicts.{judged, plain_verdict};
 ghost use Rattle.search_nodes.specs.Paths.{path_of};
 ghost use Rattle.cert_checker.specs.Trees.{NodeAfter};
 ghost use Rattle.cert_checker.specs.Progresses.{Stands, IsProgress, reason_of, stage_in, RoomFor, IsJudged, IsWalked, Takes, Judges};
 
 use crate::tree::TreeAt;
 use crate::verdict::{Found, Reason, Verdict};
-use cert_text::{CertLine, Node, Place, line_laws, read_line, step};
+use cert_text::{CertLine, Node, Place, step};
 use packing_model::{Cut, CutFault, Measured, Model, Pool};
 use problem_core::{Choice, Memory};
 use search_nodes::Walk;
 use std::alloc::Global;
 use values::Items;
 
-/// What is kept of the lines of a certificate: the place of the next line and its number, the six measures
+/// What is kept of the lines of a certificate, where each line that names a leaf is that leaf: the place of the next line and its number, the six measures
 /// of the choice, the cuts, the path to the next node, and the first fault.
 #[derive(Drop)]
 pub struct Progress {
@@ -51,11 +52,12 @@ impl Progress {
         }
     }
 
-    /// Takes a line, and says whether it may come. Where it may, the progress is that behind the line; a
+    /// Takes a line that names no earlier leaf, and says whether it may come. Where it may, the progress is that behind the line; a
     /// fault is kept, and nothing behind it is judged.
     pub fn take(&mut self, alloc: Global, m: &Model, line: CertLine) -> Result<bool, Memory>
         requires kept { IsProgress m.now self.old }
         requires bounds { in_bounds line ≡ true }
+        requires plain { is_plain line ≡ true }
         requires few { self.old.line < 2 ^ 63 }
         ensures stands { IfOk result (λ ok. (s : State) → Stands m.now self.old s → Takes m.now (step s line) self.new ok) }
         ensures kept { IfOk result (λ ok. ok ≡ true → IsProgress m.now self.new) }
@@ -72,24 +74,9 @@ impl Progress {
         }
     }
 
-    /// Takes a line by its bytes, and says whether it may come.
-    pub fn take_bytes(&mut self, alloc: Global, m: &Model, line: &[u8]) -> Result<bool, Memory>
-        requires kept { IsProgress m.now self.old }
-        requires few { self.old.line < 2 ^ 63 }
-        ensures stands { IfOk result (λ ok. (s : State) → Stands m.now self.old s → Takes m.now (takes s line.now) self.new ok) }
-        ensures kept { IfOk result (λ ok. ok ≡ true → IsProgress m.now self.new) }
-        ensures line { IfOk result (λ ok. ok ≡ true → self.new.line ≡ self.old.line + 1) }
-    {
-        line_laws();
-        match read_line(alloc, line)? {
-            Some(line) => self.take(alloc, m, line),
-            None => Ok(false),
-        }
-    }
-
     /// The verdict behind the last whole line, where `rest` is what follows it.
     pub fn finish(&self, rest: &[u8]) -> Verdict
-        ensures { (f : Facts) (s : State) → Stands f self.now s → result ≡ verdict_of f (read_end s self.now.line rest.now) }
+        ensures { (f : Facts) (s : State) → Stands f self.now s → result ≡ plain_verdict f (read_end s self.now.line rest.now) }
     {
         match self.place {
             Place::Over { levels } if rest.is_empty() => self.verdict(levels),
@@ -120,6 +107,7 @@ impl Progress {
     fn judge(&mut self, alloc: Global, m: &Model, line: CertLine) -> Result<(), Memory>
         requires kept { IsProgress m.now self.old }
         requires bounds { in_bounds line ≡ true }
+        requires plain { is_plain line ≡ true }
         requires room { RoomFor line (length self.old.pool) }
         ensures { OnOk result (Judges m.now self.old self.new line) }
     {
@@ -139,6 +127,7 @@ impl Progress {
     fn reason(&mut self, alloc: Global, m: &Model, line: CertLine) -> Result<Option<Reason>, Memory>
         requires kept { IsProgress m.now self.old }
         requires bounds { in_bounds line ≡ true }
+        requires plain { is_plain line ≡ true }
         requires room { RoomFor line (length self.old.pool) }
         ensures { IfOk result (λ reason. IsJudged m.now self.old self.new line reason) }
     {
@@ -152,9 +141,10 @@ impl Progress {
                 Ok(None)
             }
             CertLine::Node(node) => self.node_reason(m, &node),
-            CertLine::Head | CertLine::Cuts(_) | CertLine::Unfinished(_) | CertLine::End(_) => {
-                Ok(None)
-            }
+            CertLine::Head { .. }
+            | CertLine::Cuts(_)
+            | CertLine::Unfinished(_)
+            | CertLine::End(_) => Ok(None),
         }
     }
 
@@ -208,6 +198,7 @@ impl Progress {
     fn node_reason(&mut self, m: &Model, node: &Node) -> Result<Option<Reason>, Memory>
         requires kept { IsProgress m.now self.old }
         requires bounds { in_bounds (lines.Node node.now) ≡ true }
+        requires plain { is_plain (lines.Node node.now) ≡ true }
         ensures { IfOk result (λ reason. IsJudged m.now self.old self.new (lines.Node node.now) reason) }
     {
         match self.place {
@@ -220,6 +211,7 @@ impl Progress {
     fn level_reason(&mut self, m: &Model, level: u32, node: &Node) -> Result<Option<Reason>, Memory>
         requires kept { IsProgress m.now self.old }
         requires bounds { in_bounds (lines.Node node.now) ≡ true }
+        requires plain { is_plain (lines.Node node.now) ≡ true }
         requires low { 1 ≤ level }
         requires high { level ≤ 6 }
         ensures reason { IfOk result (λ reason. reason ≡ node_reason (packing m.now) (measured m.now) (stage_in self.old level) (fixing_of (path_of self.old.walk.path)) node.now) }

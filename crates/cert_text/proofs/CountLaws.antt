@@ -2,7 +2,7 @@
 use Rattle.std.proofs.Common.{ℕ, ◌≡◌, ◌-◌, arith, refl, ap, zero, suc, Bool, true, false, cond, [], ◌∷◌, ◌++◌, length, length-append}
 use Rattle.std.specs.Prelude.{Some, None, option_map, ◌==◌}
 use Rattle.std.proofs.lemmas.Bool.{ne_eqb, lt-ltb}
-use Rattle.duality.specs.declared.leaf.Node.TheVariants.{Branch, Leaf as Closing, OpenEnd}
+use Rattle.duality.specs.declared.leaf.Node.TheVariants.{Branch, Leaf as Closing, OpenEnd, Same}
 use Rattle.cert_text.specs.declared.lines.CertLine.{CertLine}
 use Rattle.cert_text.specs.declared.lines.CertLine.TheVariants as lines
 use Rattle.cert_text.specs.declared.place.Place.TheVariants.{Cutting, Between, Inside, Loose}
@@ -18,12 +18,12 @@ less : (k : ℕ) → k ≡ suc k - 1
 less k = omega arith
 
 pub step_counts : (s : State) (l : CertLine) → option_map place_of (step s l) ≡ follows (place_of s) l
-step_counts SBegun lines.Head = refl
-step_counts SHeaded (lines.Sizes p r) = refl
-step_counts (SSized p r) (lines.Choice es) = refl
-step_counts (SChosen p r cs) (lines.Values vs) = refl
-step_counts (SValued p r cs vs) (lines.Cuts zero) = refl
-step_counts (SValued p r cs vs) (lines.Cuts (suc k)) = rw (ne_eqb (suc k) 0 (λ e. absurd (omega arith))) (ap (λ n. Some (Cutting n)) (less k))
+step_counts SBegun (lines.Head v) = refl
+step_counts (SHeaded v) (lines.Sizes p r) = refl
+step_counts (SSized v p r) (lines.Choice es) = refl
+step_counts (SChosen v p r cs) (lines.Values vs) = refl
+step_counts (SValued v p r cs vs) (lines.Cuts zero) = refl
+step_counts (SValued v p r cs vs) (lines.Cuts (suc k)) = rw (ne_eqb (suc k) 0 (λ e. absurd (omega arith))) (ap (λ n. Some (Cutting n)) (less k))
 step_counts (SCutting o zero) (lines.Cut ps) = refl
 step_counts (SCutting o (suc k)) (lines.Cut ps) = rw (ne_eqb (suc k) 0 (λ e. absurd (omega arith))) (ap (λ n. Some (Cutting n)) (less k))
 step_counts (SBetween o ls) (lines.Level j) = if_place (may_begin j ls) (SInside o ls [] 0)
@@ -32,11 +32,16 @@ step_counts (SBetween o ls) (lines.End j) = if_place (j == length ls) (SOver (wi
 step_counts (SInside o ls ns k) (lines.Node (Branch p)) = ap (λ n. Some (Inside (length ls) n)) (omega arith)
 step_counts (SInside o ls ns zero) (lines.Node (Closing leaf)) = ap (λ n. Some (Between n)) (omega (arith, length-append ls (tree_of (ns ++ (Closing leaf ∷ [])) ∷ [])))
 step_counts (SInside o ls ns (suc k)) (lines.Node (Closing leaf)) = rw (ne_eqb (suc k) 0 (λ e. absurd (omega arith))) (ap (λ n. Some (Inside (length ls) n)) (less k))
+step_counts (SInside o ls ns zero) (lines.Node (Same q)) = ap (λ n. Some (Between n)) (omega (arith, length-append ls (tree_of (ns ++ (Same q ∷ [])) ∷ [])))
+step_counts (SInside o ls ns (suc k)) (lines.Node (Same q)) = rw (ne_eqb (suc k) 0 (λ e. absurd (omega arith))) (ap (λ n. Some (Inside (length ls) n)) (less k))
 step_counts (SInside o ls ns k) (lines.Node OpenEnd) = refl
 step_counts (SLoose o ls ns k seen) (lines.Node (Branch p)) = ap (λ n. Some (Loose (length ls) n seen)) (omega arith)
 step_counts (SLoose o ls ns zero true) (lines.Node (Closing leaf)) = refl
 step_counts (SLoose o ls ns zero false) (lines.Node (Closing leaf)) = refl
 step_counts (SLoose o ls ns (suc k) seen) (lines.Node (Closing leaf)) = rw (lt-ltb 0 (suc k) (omega arith)) (ap (λ n. Some (Loose (length ls) n seen)) (less k))
+step_counts (SLoose o ls ns zero true) (lines.Node (Same q)) = refl
+step_counts (SLoose o ls ns zero false) (lines.Node (Same q)) = refl
+step_counts (SLoose o ls ns (suc k) seen) (lines.Node (Same q)) = rw (lt-ltb 0 (suc k) (omega arith)) (ap (λ n. Some (Loose (length ls) n seen)) (less k))
 step_counts (SLoose o ls ns zero seen) (lines.Node OpenEnd) = refl
 step_counts (SLoose o ls ns (suc k) seen) (lines.Node OpenEnd) = rw (lt-ltb 0 (suc k) (omega arith)) (ap (λ n. Some (Loose (length ls) n true)) (less k))
 step_counts (SAfter o ls ns) (lines.End j) = if_place (j == length ls) (SOver (with_levels o ls (Some (tree_of ns))))

@@ -7,3 +7,6 @@ pub mod TakeLaws
 pub mod WriteLaws
 pub mod CountLaws
 pub mod TreeLaws
+pub mod LineLemmas
+pub mod ShareLaws
+pub mod PlainLaws

@@ -15,7 +15,7 @@ use Rattle.duality.specs.Sums.{rises, is_small}
 use Rattle.cert_text.specs.declared.lines.CertLine.{CertLine}
 use Rattle.cert_text.specs.declared.lines.CertLine.TheVariants.{Head, Sizes, Choice, Values, Cuts, Cut, Level, Unfinished, Node, End}
 use Rattle.cert_text.specs.Numbers.{lacks, cut, joined, opt_then, number_of, signed_of, each_of}
-use Rattle.cert_text.specs.Spelling.{row_text, term_fields, leaf_fields, counted, fields_of, line_text, row_in_bounds, is_zero, term_in_bounds, leaf_in_bounds, in_bounds, is_rising, small_number, value_of, row_named, row_of, term_of, terms_of, counted_terms, leaf_of, only_number, pair_of, as_many, counted_of, six_of, values_of, head_line, open_line, node_line, level_line, first_line, line_in, line_of}
+use Rattle.cert_text.specs.Spelling.{row_text, term_fields, leaf_fields, counted, fields_of, line_text, row_in_bounds, is_zero, term_in_bounds, leaf_in_bounds, in_bounds, is_rising, small_number, value_of, row_named, row_of, term_of, terms_of, counted_terms, leaf_of, only_number, pair_of, as_many, counted_of, six_of, values_of, leaf_number, open_line, node_line, level_line, first_line, line_in, line_of}
 use Rattle.cert_text.proofs.NumberLaws.{joined-cut, cut-joined, bytes_are, number_is, number_reads, opt_then_is, up_to_is, up_to_reads, signed_is, signed_reads, plain, decimal_plain, signed_plain_bytes, plain_lacks_blank, all_lack_blank, joined_lacks_feed, each_is, each_reads, each_plain, all_weaker}
 
 -- ---- small numbers
@@ -148,7 +148,7 @@ leaf_read (pos n) ts h =
 -- ---- lines
 
 pub line_reads : (l : CertLine) → in_bounds l ≡ true → line_in (fields_of l) ≡ Some l
-line_reads Head h = refl
+line_reads (Head v) h = ap (option_map Head) (only_reads 2 v (omega arith) (and_parts (nat_le 1 v) (nat_le v 2) h).1)
 line_reads (Sizes p r) h =
     let parts = and_parts (nat_le p 200000) (nat_le r 4000) h in
     rw (small_reads p parts.0, small_reads r (le_small 4000 (omega arith) r parts.1)) refl
@@ -169,7 +169,7 @@ line_reads (Unfinished j) h = ap (option_map Unfinished) (only_reads 6 j (omega 
 line_reads (Node (Branch p)) h = ap (option_map (λ q. Node (Branch q))) (only_reads 199999 p (omega arith) h)
 line_reads (Node (Closing leaf)) h = ap (option_map (λ x. Node (Closing x))) (leaf_read leaf.scale leaf.terms h)
 line_reads (Node OpenEnd) h = refl
-line_reads (Node (Same leaf)) h = absurd (true≢false (sym h))
+line_reads (Node (Same q)) h = ap (option_map (λ n. Node (Same n))) (up_to_reads 9223372036854775807 q (omega arith) h)
 line_reads (End n) h = ap (option_map End) (only_reads 6 n (omega arith) h)
 
 abbrev Spelt : List (List ℕ) → Option CertLine → Type 0
@@ -234,10 +234,10 @@ leaf_is (d ∷ (t ∷ fs)) leaf h =
         ∙ ap (λ xs. decimal n ∷ (decimal (length ts) ∷ xs)) (terms_are fs ts (sym q))
         ∙ ap leaf_fields e.1
 
-head_is : (fs : List (List ℕ)) → Spelt (codes "rooms-certificate" ∷ fs) (head_line fs)
-head_is [] = tt
-head_is (v ∷ []) = cond_both (bytes_eq v (codes "1")) (Some Head) None (Spelt (codes "rooms-certificate" ∷ (v ∷ []))) (λ e. ap (λ x. codes "rooms-certificate" ∷ (x ∷ [])) (bytes_are v (codes "1") e)) (λ e. tt)
-head_is (v ∷ (w ∷ fs)) = tt
+same_is : (fs : List (List ℕ)) (q : ℕ) → leaf_number fs ≡ Some q → fs ≡ map decimal (q ∷ [])
+same_is [] q h = absurd (none-some q h)
+same_is (f ∷ []) q h = ap (λ g. g ∷ []) (up_to_is 9223372036854775807 f q h)
+same_is (f ∷ (g ∷ fs)) q h = absurd (none-some q h)
 
 open_is : (fs : List (List ℕ)) → Spelt (codes "open" ∷ fs) (open_line fs)
 open_is [] = refl
@@ -256,8 +256,9 @@ node_is : (w : List ℕ) (fs : List (List ℕ)) (other : Option CertLine) → Sp
 node_is w fs other h =
     word w (codes "branch") fs _ _ (one_line (codes "branch") (λ p. Node (Branch p)) (λ n. refl) fs)
     (word w (codes "leaf") fs _ _ (made (codes "leaf") (λ leaf. Node (Closing leaf)) leaf_fields (λ leaf. refl) fs (leaf_of fs) (leaf_is fs))
+    (word w (codes "same") fs _ _ (made (codes "same") (λ q. Node (Same q)) (λ q. map decimal (q ∷ [])) (λ q. refl) fs (leaf_number fs) (same_is fs))
     (word w (codes "open") fs _ _ (open_is fs)
-    (word w (codes "cut") fs _ _ (many_line (codes "cut") Cut (λ ns. refl) fs) h)))
+    (word w (codes "cut") fs _ _ (many_line (codes "cut") Cut (λ ns. refl) fs) h))))
 
 level_is : (w : List ℕ) (fs : List (List ℕ)) (other : Option CertLine) → Spelt (w ∷ fs) other → Spelt (w ∷ fs) (level_line w fs other)
 level_is w fs other h =
@@ -268,7 +269,7 @@ level_is w fs other h =
 
 first_is : (w : List ℕ) (fs : List (List ℕ)) (other : Option CertLine) → Spelt (w ∷ fs) other → Spelt (w ∷ fs) (first_line w fs other)
 first_is w fs other h =
-    word w (codes "rooms-certificate") fs _ _ (head_is fs)
+    word w (codes "rooms-certificate") fs _ _ (one_line (codes "rooms-certificate") Head (λ n. refl) fs)
     (word w (codes "model") fs _ _ (made (codes "model") (λ p. Sizes p.0 p.1) pair_fields (λ p. refl) fs (pair_of fs) (pair_is fs))
     (word w (codes "choice") fs _ _ (many_line (codes "choice") Choice (λ ns. refl) fs)
     (word w (codes "values") fs _ _ (made (codes "values") Values (map signed_decimal) (λ vs. refl) fs (values_of fs) (values_are fs)) h)))
@@ -296,7 +297,7 @@ numbers_plain : (ns : List ℕ) → all_small ns ≡ true → list_all plain (ma
 numbers_plain ns h = each_plain decimal (λ n. nat_le n 200000) small_plain ns h
 
 is_line : (l : CertLine) → in_bounds l ≡ true → IsLine l
-is_line Head h = record { word = codes "rooms-certificate"; rest = codes "1" ∷ []; fields = refl; first = refl; others = refl }
+is_line (Head v) h = record { word = codes "rooms-certificate"; rest = map decimal (v ∷ []); fields = refl; first = refl; others = numbers_plain (v ∷ []) (one_small 2 v (omega arith) (and_parts (nat_le 1 v) (nat_le v 2) h).1) }
 is_line (Sizes p r) h =
     let parts = and_parts (nat_le p 200000) (nat_le r 4000) h in
     record { word = codes "model"; rest = map decimal (p ∷ (r ∷ [])); fields = refl; first = refl; others = numbers_plain (p ∷ (r ∷ [])) (and_from (nat_le p 200000) (all_small (r ∷ [])) parts.0 (one_small 4000 r (omega arith) parts.1)) }
@@ -326,7 +327,9 @@ is_line (Node (Closing leaf)) h = record { word = codes "leaf"; rest = leaf_fiel
         and_from (plain (decimal n)) (plain (decimal (length ts)) && list_all plain (term_fields ts)) (decimal_plain n (leb-true n (10 ^ 24) parts.0))
         (and_from (plain (decimal (length ts))) (list_all plain (term_fields ts)) (small_plain (length ts) (le_small 5005 (omega arith) (length ts) count.0)) (terms_plain ts each.0))
 is_line (Node OpenEnd) h = record { word = codes "open"; rest = []; fields = refl; first = refl; others = refl }
-is_line (Node (Same leaf)) h = absurd (true≢false (sym h))
+is_line (Node (Same q)) h =
+    let small : q ≤ 10 ^ 24 = omega (arith, leb-true q 9223372036854775807 h) in
+    record { word = codes "same"; rest = map decimal (q ∷ []); fields = refl; first = refl; others = and_from (plain (decimal q)) true (decimal_plain q small) refl }
 is_line (End n) h = record { word = codes "end"; rest = map decimal (n ∷ []); fields = refl; first = refl; others = numbers_plain (n ∷ []) (one_small 6 n (omega arith) h) }
 
 -- and what is written is read

@@ -26,12 +26,22 @@ field_line b0 b1 b2 b3 b4 w f fs e1 e2 e3 e4 =
     let flat : (((b0 ++ w) ++ (32 ∷ f)) ++ blank_before fs) ++ (10 ∷ []) ≡ b0 ++ ((w ++ (32 ∷ (f ++ blank_before fs))) ++ (10 ∷ [])) = simp append_assoc in
     all ∙ flat ∙ ap (λ x. b0 ++ (x ++ (10 ∷ []))) (sym (joined_blank w (f ∷ fs)))
 
-pub leaf_line : (b0 b1 b2 b3 b4 b5 : List ℕ) (leaf : Leaf) → b1 ≡ b0 ++ (108 ∷ (101 ∷ (97 ∷ (102 ∷ [])))) → b2 ≡ b1 ++ (32 ∷ signed_decimal leaf.scale) → b3 ≡ b2 ++ (32 ∷ decimal (length leaf.terms)) → b4 ≡ b3 ++ blank_before (term_fields leaf.terms) → b5 ≡ b4 ++ (10 ∷ [])
-    → b5 ≡ b0 ++ lined (line_text (lines.Node (Closing leaf)))
-leaf_line b0 b1 b2 b3 b4 b5 leaf e1 e2 e3 e4 e5 =
-    field_line b0 b1 b2 b4 b5 (108 ∷ (101 ∷ (97 ∷ (102 ∷ [])))) (signed_decimal leaf.scale) (decimal (length leaf.terms) ∷ term_fields leaf.terms) e1 e2
+-- a word, a field and more fields
+field_text : (b0 b1 b2 b3 w f : List ℕ) (fs : List (List ℕ)) → b1 ≡ b0 ++ w → b2 ≡ b1 ++ (32 ∷ f) → b3 ≡ b2 ++ blank_before fs → b3 ≡ b0 ++ joined 32 (w ∷ (f ∷ fs))
+field_text b0 b1 b2 b3 w f fs e1 e2 e3 =
+    let all : b3 ≡ ((b0 ++ w) ++ (32 ∷ f)) ++ blank_before fs = e3 ∙ ap (λ b. b ++ blank_before fs) (e2 ∙ ap (λ b. b ++ (32 ∷ f)) e1) in
+    let flat : ((b0 ++ w) ++ (32 ∷ f)) ++ blank_before fs ≡ b0 ++ (w ++ (32 ∷ (f ++ blank_before fs))) = simp append_assoc in
+    all ∙ flat ∙ ap (λ x. b0 ++ x) (sym (joined_blank w (f ∷ fs)))
+
+pub leaf_line : (b0 b1 b2 b3 b4 : List ℕ) (leaf : Leaf) → b1 ≡ b0 ++ (108 ∷ (101 ∷ (97 ∷ (102 ∷ [])))) → b2 ≡ b1 ++ (32 ∷ signed_decimal leaf.scale) → b3 ≡ b2 ++ (32 ∷ decimal (length leaf.terms)) → b4 ≡ b3 ++ blank_before (term_fields leaf.terms)
+    → b4 ≡ b0 ++ line_text (lines.Node (Closing leaf))
+leaf_line b0 b1 b2 b3 b4 leaf e1 e2 e3 e4 =
+    field_text b0 b1 b2 b4 (108 ∷ (101 ∷ (97 ∷ (102 ∷ [])))) (signed_decimal leaf.scale) (decimal (length leaf.terms) ∷ term_fields leaf.terms) e1 e2
     (e4 ∙ ap (λ b. b ++ blank_before (term_fields leaf.terms)) e3 ∙ append_assoc b2 (32 ∷ decimal (length leaf.terms)) (blank_before (term_fields leaf.terms)))
-    e5
+
+-- a line and its line feed
+pub fed_line : (b0 b1 b2 line : List ℕ) → b1 ≡ b0 ++ line → b2 ≡ b1 ++ (10 ∷ []) → b2 ≡ b0 ++ lined line
+fed_line b0 b1 b2 line e1 e2 = e2 ∙ ap (λ b. b ++ (10 ∷ [])) e1 ∙ append_assoc b0 line (10 ∷ [])
 
 -- the lines before the cuts
 pub opening_line : (b0 b1 b2 b3 b4 b5 l1 l2 l3 l4 l5 : List ℕ) → b1 ≡ b0 ++ lined l1 → b2 ≡ b1 ++ lined l2 → b3 ≡ b2 ++ lined l3 → b4 ≡ b3 ++ lined l4 → b5 ≡ b4 ++ lined l5
@@ -67,11 +77,11 @@ level_more b0 b1 b2 ts i t l e e1 e2 =
 
 -- the parts of a text
 pub whole_text : (b0 b1 b2 b3 b4 b5 : List ℕ) (c : Certificate)
-    → b1 ≡ b0 ++ fed (map line_text (lines.Head ∷ (lines.Sizes c.patterns c.rows ∷ (lines.Choice c.choice ∷ (lines.Values c.values ∷ (lines.Cuts (length c.cuts) ∷ []))))))
+    → b1 ≡ b0 ++ fed (map line_text (lines.Head c.version ∷ (lines.Sizes c.patterns c.rows ∷ (lines.Choice c.choice ∷ (lines.Values c.values ∷ (lines.Cuts (length c.cuts) ∷ []))))))
     → b2 ≡ b1 ++ fed (map line_text (map lines.Cut c.cuts)) → b3 ≡ b2 ++ fed (map line_text (blocks 0 c.levels)) → b4 ≡ b3 ++ fed (map line_text (open_block (length c.levels) c.unfinished))
     → b5 ≡ b4 ++ lined (line_text (lines.End (length c.levels))) → b5 ≡ b0 ++ text_of c
 whole_text b0 b1 b2 b3 b4 b5 c e1 e2 e3 e4 e5 =
-    let first = lines.Head ∷ (lines.Sizes c.patterns c.rows ∷ (lines.Choice c.choice ∷ (lines.Values c.values ∷ (lines.Cuts (length c.cuts) ∷ [])))) in
+    let first = lines.Head c.version ∷ (lines.Sizes c.patterns c.rows ∷ (lines.Choice c.choice ∷ (lines.Values c.values ∷ (lines.Cuts (length c.cuts) ∷ [])))) in
     let cuts = map lines.Cut c.cuts in
     let levels = blocks 0 c.levels in
     let open_part = open_block (length c.levels) c.unfinished in

@@ -20,6 +20,7 @@ nodes_after (After levels) ns = []
 nodes_after place ns = ns
 
 abbrev pub certificate_with : CertLine → Place → Certificate → List SearchNode → Certificate
+certificate_with (lines.Head v) q c ns = record c { version = v }
 certificate_with (lines.Sizes p r) q c ns = record c { patterns = p; rows = r }
 certificate_with (lines.Choice entries) q c ns = record c { choice = entries }
 certificate_with (lines.Values values) q c ns = record c { values = values }

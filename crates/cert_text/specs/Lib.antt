@@ -1,5 +1,6 @@
 pub mod Numbers
 pub mod Spelling
+pub mod Sharing
 pub mod Grammar
 pub mod Text
 pub mod Places

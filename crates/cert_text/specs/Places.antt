@@ -19,7 +19,7 @@ abbrev pub in_level : ℕ → ℕ → SearchNode → Option Place
 in_level levels wanted (Branch p) = Some (Inside levels (wanted + 1))
 in_level levels wanted (Closing leaf) = if wanted == 0 then Some (Between (levels + 1)) else Some (Inside levels (wanted - 1))
 in_level levels wanted OpenEnd = None
-in_level levels wanted (Same leaf) = None
+in_level levels wanted (Same q) = if wanted == 0 then Some (Between (levels + 1)) else Some (Inside levels (wanted - 1))
 
 abbrev pub close : ℕ → ℕ → Bool → Bool → Option Place
 close levels wanted seen may_end = if nat_lt 0 wanted then Some (Loose levels (wanted - 1) seen) else (if may_end then Some (After levels) else None)
@@ -28,11 +28,11 @@ abbrev pub in_loose : ℕ → ℕ → Bool → SearchNode → Option Place
 in_loose levels wanted seen (Branch p) = Some (Loose levels (wanted + 1) seen)
 in_loose levels wanted seen (Closing leaf) = close levels wanted seen seen
 in_loose levels wanted seen OpenEnd = close levels wanted true true
-in_loose levels wanted seen (Same leaf) = None
+in_loose levels wanted seen (Same q) = close levels wanted seen seen
 
 -- the place after a line, where the line may come
 abbrev pub follows : Place → CertLine → Option Place
-follows Head lines.Head = Some Sizes
+follows Head (lines.Head version) = Some Sizes
 follows Sizes (lines.Sizes p r) = Some Choice
 follows Choice (lines.Choice entries) = Some Values
 follows Values (lines.Values vs) = Some Cuts
@@ -62,10 +62,10 @@ count_of place = 0
 -- the counts of a state
 abbrev pub place_of : State → Place
 place_of SBegun = Head
-place_of SHeaded = Sizes
-place_of (SSized p r) = Choice
-place_of (SChosen p r cs) = Values
-place_of (SValued p r cs vs) = Cuts
+place_of (SHeaded v) = Sizes
+place_of (SSized v p r) = Choice
+place_of (SChosen v p r cs) = Values
+place_of (SValued v p r cs vs) = Cuts
 place_of (SCutting o k) = Cutting k
 place_of (SBetween o ls) = Between (length ls)
 place_of (SInside o ls ns k) = Inside (length ls) k

@@ -12,7 +12,7 @@ use Rattle.cert_text.specs.declared.reader.Reader.{Reader}
 use Rattle.cert_text.specs.Grammar.{State, opening_of}
 use Rattle.cert_text.specs.Grammar.State.{Begun as SBegun, Headed as SHeaded, Sized as SSized, Chosen as SChosen, Valued as SValued, Cutting as SCutting, Between as SBetween, Inside as SInside, Loose as SLoose, After as SAfter, Over as SOver}
 use Rattle.cert_text.specs.Places.{count_of, wanted_of}
-use Rattle.cert_text.specs.Text.{IsFaultyLine}
+use Rattle.cert_text.specs.Text.{IsFaultyLine, Standing}
 
 abbrev pub nodes_of : Option Tree → List SearchNode
 nodes_of None = []
@@ -20,10 +20,10 @@ nodes_of (Some t) = t.nodes
 
 abbrev pub state_at : Place → Certificate → List SearchNode → State
 state_at Head c ns = SBegun
-state_at Sizes c ns = SHeaded
-state_at Choice c ns = SSized c.patterns c.rows
-state_at Values c ns = SChosen c.patterns c.rows c.choice
-state_at Cuts c ns = SValued c.patterns c.rows c.choice c.values
+state_at Sizes c ns = SHeaded c.version
+state_at Choice c ns = SSized c.version c.patterns c.rows
+state_at Values c ns = SChosen c.version c.patterns c.rows c.choice
+state_at Cuts c ns = SValued c.version c.patterns c.rows c.choice c.values
 state_at (Cutting wanted) c ns = SCutting (opening_of c) wanted
 state_at (Between levels) c ns = SBetween (opening_of c) c.levels
 state_at (Inside levels wanted) c ns = SInside (opening_of c) c.levels ns wanted
@@ -33,6 +33,9 @@ state_at (Over levels) c ns = SOver c
 
 abbrev pub state_of : Reader → State
 state_of r = state_at r.place r.certificate r.nodes
+
+abbrev pub standing_of : Reader → Standing
+standing_of r = record { state = state_of r; named = r.named }
 
 -- no cuts and no levels yet
 pub record IsBare (c : Certificate) : Type 0 where
@@ -79,8 +82,8 @@ pub record IsSound (p : Place) (c : Certificate) (ns : List SearchNode) : Type 0
 abbrev pub IsSoundReader : Reader → Type 0
 IsSoundReader r = IsSound r.place r.certificate r.nodes
 
--- whether a line was taken, and the state behind it
-abbrev pub Took : Option State → State → Bool → Type 0
+-- whether a line was taken, and what was read behind it
+abbrev pub Took : Option Standing → Standing → Bool → Type 0
 Took None s ok = ok ≡ false
 Took (Some t) s ok = (ok ≡ true) × (s ≡ t)
 

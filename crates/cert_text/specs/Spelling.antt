@@ -32,7 +32,7 @@ abbrev pub counted : List ℕ → List (List ℕ)
 counted ns = map decimal (length ns ∷ ns)
 
 abbrev pub fields_of : CertLine → List (List ℕ)
-fields_of Head = codes "rooms-certificate" ∷ (codes "1" ∷ [])
+fields_of (Head version) = codes "rooms-certificate" ∷ map decimal (version ∷ [])
 fields_of (Sizes patterns rows) = codes "model" ∷ map decimal (patterns ∷ (rows ∷ []))
 fields_of (Choice entries) = codes "choice" ∷ counted entries
 fields_of (Values values) = codes "values" ∷ map signed_decimal values
@@ -80,9 +80,13 @@ scale_in_bounds (negsuc n) = false
 abbrev pub leaf_in_bounds : Leaf → Bool
 leaf_in_bounds leaf = scale_in_bounds leaf.scale && (nat_le (length leaf.terms) 5005 && (list_all term_in_bounds leaf.terms && rises leaf.terms))
 
--- in this version of the text no line names an earlier leaf
+-- a version that is known
+abbrev pub is_version : ℕ → Bool
+is_version n = nat_le 1 n && nat_le n 2
+
+-- the number of an earlier leaf line is below 2^63, as the bytes of every text are
 abbrev pub in_bounds : CertLine → Bool
-in_bounds Head = true
+in_bounds (Head version) = is_version version
 in_bounds (Sizes patterns rows) = nat_le patterns 200000 && nat_le rows 4000
 in_bounds (Choice entries) = nat_le (length entries) 4000 && list_all (λ entry. nat_le entry 200) entries
 in_bounds (Values values) = (length values == 6) && list_all (is_small (10 ^ 12)) values
@@ -93,12 +97,12 @@ in_bounds (Unfinished j) = nat_le j 6
 in_bounds (Node (Branch p)) = nat_le p 199999
 in_bounds (Node (Closing leaf)) = leaf_in_bounds leaf
 in_bounds (Node OpenEnd) = true
-in_bounds (Node (Same leaf)) = false
+in_bounds (Node (Same leaf)) = nat_le leaf 9223372036854775807
 in_bounds (End n) = nat_le n 6
 
 -- ---- the reader
 
--- all numbers of a line but those of a leaf and the values
+-- all numbers of a line but those of a leaf, the values and the number of a leaf line
 abbrev pub small_number : List ℕ → Option ℕ
 small_number field = number_up_to 200000 field
 
@@ -164,13 +168,11 @@ six_of (Some vs) = if length vs == 6 then Some vs else None
 abbrev pub values_of : List (List ℕ) → Option (List ℤ)
 values_of fields = six_of (each_of value_of fields)
 
-abbrev pub is_version : List (List ℕ) → Bool
-is_version [] = false
-is_version (v ∷ []) = bytes_eq v (codes "1")
-is_version (v ∷ (w ∷ fs)) = false
-
-abbrev pub head_line : List (List ℕ) → Option CertLine
-head_line fs = if is_version fs then Some Head else None
+-- the number of a leaf line
+abbrev pub leaf_number : List (List ℕ) → Option ℕ
+leaf_number [] = None
+leaf_number (f ∷ []) = number_up_to 9223372036854775807 f
+leaf_number (f ∷ (g ∷ fields)) = None
 
 abbrev pub open_line : List (List ℕ) → Option CertLine
 open_line [] = Some (Node OpenEnd)
@@ -181,9 +183,10 @@ abbrev pub node_line : List ℕ → List (List ℕ) → Option CertLine → Opti
 node_line w fs other =
     if bytes_eq w (codes "branch") then option_map (λ p. Node (Branch p)) (only_number fs)
     else (if bytes_eq w (codes "leaf") then option_map (λ leaf. Node (Closing leaf)) (leaf_of fs)
+    else (if bytes_eq w (codes "same") then option_map (λ q. Node (Same q)) (leaf_number fs)
     else (if bytes_eq w (codes "open") then open_line fs
     else (if bytes_eq w (codes "cut") then option_map Cut (counted_of fs)
-    else other)))
+    else other))))
 
 -- the lines around the trees
 abbrev pub level_line : List ℕ → List (List ℕ) → Option CertLine → Option CertLine
@@ -197,7 +200,7 @@ level_line w fs other =
 -- the lines at the beginning
 abbrev pub first_line : List ℕ → List (List ℕ) → Option CertLine → Option CertLine
 first_line w fs other =
-    if bytes_eq w (codes "rooms-certificate") then head_line fs
+    if bytes_eq w (codes "rooms-certificate") then option_map Head (only_number fs)
     else (if bytes_eq w (codes "model") then option_map (λ p. Sizes p.0 p.1) (pair_of fs)
     else (if bytes_eq w (codes "choice") then option_map Choice (counted_of fs)
     else (if bytes_eq w (codes "values") then option_map Values (values_of fs)

@@ -1,9 +1,12 @@
 -- The bytes of a certificate, and the first faulty line of other bytes.
 use Rattle.std.specs.Prelude.{ℕ, ◌≡◌, ◌+◌, ◌<◌, ◌≤◌, true, Option, Some, None, Result, Ok, Err, List, [], ◌∷◌, ◌++◌, length, map, take}
 use Rattle.cert_text.specs.declared.lines.Certificate.{Certificate}
+use Rattle.cert_text.specs.declared.lines.CertLine.{CertLine}
 use Rattle.cert_text.specs.Numbers.{cut, opt_then}
 use Rattle.cert_text.specs.Spelling.{line_of, line_text}
 use Rattle.cert_text.specs.Grammar.{State, lines_of, step, is_writable}
+use Rattle.cert_text.specs.declared.named.Named.{Named}
+use Rattle.cert_text.specs.Sharing.{none_named, named}
 use Rattle.cert_text.specs.Grammar.State.{Begun, Headed, Sized, Chosen, Valued, Cutting, Between, Inside, Loose, After, Over}
 
 -- lines, each with its line feed
@@ -57,16 +60,32 @@ pub record IsFaultyLine (bytes : List ℕ) (n : ℕ) : Type 0 where
 
 -- ---- the reader
 
--- the state after a line, where the line may come
-abbrev pub takes : State → List ℕ → Option State
-takes s line = opt_then (line_of line) (step s)
+-- what was read, and the leaf lines that may be named
+pub record Standing : Type 0 where
+  pub state : State
+  pub named : Named
+
+abbrev pub begun : Standing
+begun = record { state = Begun; named = none_named 0 }
+
+abbrev pub stands_at : Option State → Option Named → Option Standing
+stands_at None k = None
+stands_at (Some s) None = None
+stands_at (Some s) (Some k) = Some (record { state = s; named = k })
+
+-- behind a line, where the line may come
+abbrev pub steps : Standing → CertLine → Option Standing
+steps s l = stands_at (step s.state l) (named s.named l)
+
+abbrev pub takes : Standing → List ℕ → Option Standing
+takes s line = opt_then (line_of line) (steps s)
 
 abbrev pub read_over : State → ℕ → Result Certificate ℕ
 read_over Begun n = Err n
-read_over Headed n = Err n
-read_over (Sized p r) n = Err n
-read_over (Chosen p r cs) n = Err n
-read_over (Valued p r cs vs) n = Err n
+read_over (Headed v) n = Err n
+read_over (Sized v p r) n = Err n
+read_over (Chosen v p r cs) n = Err n
+read_over (Valued v p r cs vs) n = Err n
 read_over (Cutting o k) n = Err n
 read_over (Between o ls) n = Err n
 read_over (Inside o ls ns k) n = Err n
@@ -79,9 +98,9 @@ read_end s n [] = read_over s n
 read_end s n (b ∷ bs) = Err n
 
 -- line by line from number n on, and then the rest: the certificate, or the number of the faulty line
-abbrev pub read_from : State → ℕ → List (List ℕ) → List ℕ → Result Certificate ℕ
-read_from s n [] rest = read_end s n rest
+abbrev pub read_from : Standing → ℕ → List (List ℕ) → List ℕ → Result Certificate ℕ
+read_from s n [] rest = read_end s.state n rest
 read_from s n (line ∷ lines) rest = elim (takes s line) [ None ↦ Err n | Some t ↦ read_from t (n + 1) lines rest ]
 
 abbrev pub certificate_of : List ℕ → Result Certificate ℕ
-certificate_of bytes = read_from Begun 1 (whole_lines bytes) (rest_of bytes)
+certificate_of bytes = read_from begun 1 (whole_lines bytes) (rest_of bytes)

@@ -2,7 +2,7 @@ ghost use Rattle.std.specs.Prelude.{◌≡◌, ◌^◌, ◌&&◌, ◌==◌, nat_
 ghost use Rattle.std.specs.List.{list_all};
 ghost use Rattle.cert_text.specs.declared.lines.CertLine.TheVariants as lines;
 ghost use Rattle.duality.specs.Sums.{rises, is_small};
-ghost use Rattle.cert_text.specs.Spelling.{in_bounds, leaf_in_bounds, term_in_bounds, row_in_bounds, scale_in_bounds, is_zero, is_rising};
+ghost use Rattle.cert_text.specs.Spelling.{in_bounds, leaf_in_bounds, term_in_bounds, row_in_bounds, scale_in_bounds, is_zero, is_rising, is_version};
 
 use crate::lines::CertLine;
 use duality::{Leaf, Node, RowName, Term, is_before};
@@ -14,7 +14,7 @@ pub fn in_bounds(line: &CertLine) -> bool
     ensures { result ≡ in_bounds line.now }
 {
     match line {
-        CertLine::Head => true,
+        CertLine::Head { version } => is_version(*version),
         CertLine::Sizes { patterns, rows } => *patterns <= 200_000 && *rows <= 4_000,
         CertLine::Choice(entries) => choice_in_bounds(entries.as_slice()),
         CertLine::Values(values) => values_in_bounds(values),
@@ -25,6 +25,12 @@ pub fn in_bounds(line: &CertLine) -> bool
         CertLine::Node(node) => node_in_bounds(node),
         CertLine::End(levels) => *levels <= 6,
     }
+}
+
+fn is_version(version: u32) -> bool
+    ensures { result ≡ is_version version }
+{
+    1 <= version && version <= 2
 }
 
 fn choice_in_bounds(entries: &[u32]) -> bool
@@ -70,7 +76,7 @@ fn node_in_bounds(node: &Node) -> bool
         Node::Branch(pattern) => *pattern <= 199_999,
         Node::Leaf(leaf) => leaf_in_bounds(leaf),
         Node::OpenEnd => true,
-        Node::Same(_) => false,
+        Node::Same(leaf) => *leaf <= 9_223_372_036_854_775_807,
     }
 }
 

@@ -5,7 +5,8 @@ ghost use Rattle.duality.specs.After.{after, are_right};
 ghost use Rattle.cert_text.specs.declared.lines.Certificate.{Certificate};
 ghost use Rattle.cert_text.specs.declared.lines.CertLine.{CertLine};
 ghost use Rattle.cert_text.specs.Spelling.{line_of, line_text, in_bounds};
-ghost use Rattle.cert_text.specs.Grammar.{State, step, fills};
+ghost use Rattle.cert_text.specs.Grammar.{State, step, fills, lines_of, is_writable};
+ghost use Rattle.cert_text.specs.Sharing.{share, plain, none_named, plain_lines};
 ghost use Rattle.cert_text.specs.Places.{follows, place_of};
 ghost use Rattle.cert_text.specs.Text.{IsText, IsFaultyLine, certificate_of};
 
@@ -33,4 +34,15 @@ pub fn place_laws()
 /// Nodes that are right one after the other and leave nothing to be proved are one whole tree.
 pub fn tree_laws()
     ensures { (k : Packing) (w : Weights) (s : Stage) (f : Fixing) (ns : List Node) → are_right k w s (f ∷ []) ns ≡ true → after (f ∷ []) ns ≡ [] → fills 0 ns ≡ true }
+{}
+
+/// A certificate inside the bounds and its shared form have one plain form, which is inside the bounds. A
+/// certificate of version 1 is its own plain form, one of version 2 its own shared form. What its lines mean,
+/// a line that names a leaf being that leaf, are the lines of its plain form but for the version.
+pub fn share_laws()
+    ensures one { (c : Certificate) → is_writable c ≡ true → plain (share c) ≡ plain c }
+    ensures writable { (c : Certificate) → is_writable c ≡ true → is_writable (plain c) ≡ true }
+    ensures first { (c : Certificate) → is_writable c ≡ true → c.version ≡ 1 → plain c ≡ c }
+    ensures second { (c : Certificate) → is_writable c ≡ true → c.version ≡ 2 → share c ≡ c }
+    ensures lines { (c : Certificate) → is_writable c ≡ true → plain_lines (none_named 0) (lines_of c) ≡ lines_of (record (plain c) { version = c.version }) }
 {}

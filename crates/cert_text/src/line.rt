@@ -1,13 +1,13 @@
 ghost use Rattle.std.specs.Prelude.{◌≡◌, IfOk, None, option_map};
 ghost use Rattle.cert_text.specs.declared.lines.CertLine.TheVariants as lines;
 ghost use Rattle.cert_text.specs.Numbers.{each_of};
-ghost use Rattle.cert_text.specs.Spelling.{small_number, only_number, pair_of, counted_of, as_many, is_version, head_line, open_line, node_line, level_line, first_line, line_of, bounded};
+ghost use Rattle.cert_text.specs.Spelling.{small_number, only_number, pair_of, counted_of, as_many, leaf_number, open_line, node_line, level_line, first_line, line_of, bounded};
 
 use crate::bounds::in_bounds;
 use crate::fields::Fields;
 use crate::leaf_line::{read_leaf, read_values};
 use crate::lines::CertLine;
-use crate::number::read_small;
+use crate::number::{read_small, read_wide};
 use duality::Node;
 use std::alloc::{AllocError, Global};
 use values::Items;
@@ -48,6 +48,9 @@ fn read_node_line(
     }
     if word == b"leaf".as_slice() {
         return Ok(read_leaf(alloc, fields)?.map(|leaf| CertLine::Node(Node::Leaf(leaf))));
+    }
+    if word == b"same".as_slice() {
+        return Ok(leaf_number(fields).map(|leaf| CertLine::Node(Node::Same(leaf))));
     }
     if word == b"open".as_slice() {
         return Ok(open_line(fields));
@@ -99,7 +102,7 @@ fn read_first_line(
     ensures { IfOk result (λ l. l ≡ first_line word.now fields.old None) }
 {
     if word == b"rooms-certificate".as_slice() {
-        return Ok(head_line(fields));
+        return Ok(only_number(fields).map(|version| CertLine::Head { version }));
     }
     if word == b"model".as_slice() {
         return Ok(pair_of(fields).map(|pair| CertLine::Sizes {
@@ -125,25 +128,16 @@ fn values_line(values: Option<[i64; 6]>) -> Option<CertLine>
     }
 }
 
-fn head_line(fields: &mut Fields) -> Option<CertLine>
-    ensures { result ≡ head_line fields.old }
-{
-    if is_version(fields) {
-        Some(CertLine::Head)
-    } else {
-        None
-    }
-}
-
-fn is_version(fields: &mut Fields) -> bool
-    ensures { result ≡ is_version fields.old }
+// The number of a leaf line and nothing behind it.
+fn leaf_number(fields: &mut Fields) -> Option<u64>
+    ensures { result ≡ leaf_number fields.old }
 {
     match fields.next() {
-        None => false,
-        Some(version) => {
-            let alone = fields.next().is_none();
-            alone && version == b"1".as_slice()
-        }
+        None => None,
+        Some(field) => match fields.next() {
+            None => read_wide(field),
+            Some(_) => None,
+        },
     }
 }
 

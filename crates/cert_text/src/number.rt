@@ -3,7 +3,7 @@ ghost use Rattle.std.specs.List.{list_all};
 ghost use Rattle.std.specs.Str.{bytes_eq};
 ghost use Rattle.std.specs.Str.Parse.{digits_value};
 ghost use Rattle.std.specs.Fmt.{decimal};
-ghost use Rattle.cert_text.specs.Numbers.{number_of, signed_of, minus, plus, is_digit};
+ghost use Rattle.cert_text.specs.Numbers.{number_of, number_up_to, signed_of, minus, plus, is_digit};
 ghost use Rattle.cert_text.specs.Spelling.{small_number, value_of};
 
 use itoa::Buffer;
@@ -50,6 +50,16 @@ pub fn read_small(field: &[u8]) -> Option<u32>
 {
     match read_natural(field) {
         Some(number) if number <= 200_000 => Some(number as u32),
+        _ => None,
+    }
+}
+
+/// The natural number below 2^63 that a field spells.
+pub fn read_wide(field: &[u8]) -> Option<u64>
+    ensures { result ≡ number_up_to 9223372036854775807 field.now }
+{
+    match read_natural(field) {
+        Some(number) if number <= 9_223_372_036_854_775_807 => Some(number as u64),
         _ => None,
     }
 }

@@ -44,7 +44,7 @@ pub fn step(place: Place, line: &CertLine) -> Option<Place>
     ensures { result ≡ follows place line.now }
 {
     match (place, line) {
-        (Place::Head, CertLine::Head) => Some(Place::Sizes),
+        (Place::Head, CertLine::Head { .. }) => Some(Place::Sizes),
         (Place::Sizes, CertLine::Sizes { .. }) => Some(Place::Choice),
         (Place::Choice, CertLine::Choice(_)) => Some(Place::Values),
         (Place::Values, CertLine::Values(_)) => Some(Place::Cuts),
@@ -121,7 +121,7 @@ fn in_level(levels: u32, wanted: u64, node: &Node) -> Option<Place>
             levels,
             wanted: wanted + 1,
         }),
-        Node::Leaf(_) => {
+        Node::Leaf(_) | Node::Same(_) => {
             if wanted == 0 {
                 Some(Place::Between { levels: levels + 1 })
             } else {
@@ -131,7 +131,7 @@ fn in_level(levels: u32, wanted: u64, node: &Node) -> Option<Place>
                 })
             }
         }
-        Node::OpenEnd | Node::Same(_) => None,
+        Node::OpenEnd => None,
     }
 }
 
@@ -145,9 +145,8 @@ fn in_loose(levels: u32, wanted: u64, seen: bool, node: &Node) -> Option<Place>
             wanted: wanted + 1,
             seen,
         }),
-        Node::Leaf(_) => close(levels, wanted, seen, seen),
+        Node::Leaf(_) | Node::Same(_) => close(levels, wanted, seen, seen),
         Node::OpenEnd => close(levels, wanted, true, true),
-        Node::Same(_) => None,
     }
 }
 

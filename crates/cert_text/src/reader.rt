@@ -1,15 +1,16 @@
 ghost use Rattle.std.specs.Prelude.{◌≡◌, ◌<◌, ◌≤◌, ◌+◌, ◌^◌, [], ◌∷◌, ◌++◌, length, IfOk, OnOk, IfErr, MatchOption, MatchResult, Ok, Err};
 ghost use Rattle.input_core.specs.declared.faults.LineKind.TheVariants as kinds;
 ghost use Rattle.input_core.specs.declared.faults.TextFault.TheVariants as faults;
-ghost use Rattle.cert_text.specs.Text.{IsText, whole_lines, rest_of, takes, read_end};
-ghost use Rattle.cert_text.specs.Grammar.{step};
-ghost use Rattle.cert_text.specs.Grammar.State.{Begun};
-ghost use Rattle.cert_text.specs.Reading.{state_of, IsSoundReader, Took, IsTextFault};
+ghost use Rattle.cert_text.specs.Spelling.{line_text};
+ghost use Rattle.cert_text.specs.Text.{IsText, whole_lines, rest_of, begun, steps, takes, read_end};
+ghost use Rattle.cert_text.specs.Reading.{state_of, standing_of, IsSoundReader, Took, IsTextFault};
 ghost use Rattle.cert_text.specs.Adding.{certificate_with, nodes_with, ended, nodes_after};
 
 use crate::fields::length_to;
+use crate::laws::line_laws;
 use crate::line::read_line;
 use crate::lines::{CertLine, Certificate, Tree};
+use crate::named::Named;
 use crate::place::{Place, step};
 use duality::Node;
 use input_core::{LineFault, LineKind, TextFault};
@@ -60,23 +61,25 @@ pub fn next_line(bytes: &[u8]) -> Option<(&[u8], &[u8])>
     Some((line, after))
 }
 
-/// What was read of a certificate, and the place of the next line.
+/// What was read of a certificate, the place of the next line, and the leaf lines that may be named.
 #[derive(Drop)]
 pub struct Reader {
     pub place: Place,
     pub certificate: Certificate,
     pub nodes: Items<Node>,
+    pub named: Named,
 }
 
 impl Reader {
     fn new(alloc: Global) -> Reader
-        ensures begun { state_of result ≡ Begun }
+        ensures begun { standing_of result ≡ begun }
         ensures sound { IsSoundReader result }
         ensures none { result.nodes ≡ [] }
     {
         Reader {
             place: Place::Head,
             certificate: Certificate {
+                version: 0,
                 patterns: 0,
                 rows: 0,
                 choice: Items::new(alloc),
@@ -86,6 +89,7 @@ impl Reader {
                 unfinished: None,
             },
             nodes: Items::new(alloc),
+            named: Named::new(alloc),
         }
     }
 
@@ -93,25 +97,31 @@ impl Reader {
     fn take_bytes(&mut self, alloc: Global, line: &[u8]) -> Result<bool, AllocError>
         requires sound { IsSoundReader self.old }
         requires few { length self.old.nodes < 2 ^ 63 }
-        ensures took { IfOk result (Took (takes (state_of self.old) line.now) (state_of self.new)) }
+        ensures took { IfOk result (Took (takes (standing_of self.old) line.now) (standing_of self.new)) }
         ensures sound { OnOk result (IsSoundReader self.new) }
         ensures few { OnOk result (length self.new.nodes ≤ length self.old.nodes + 1) }
     {
+        line_laws();
         match read_line(alloc, line)? {
-            Some(line) => self.take(alloc, line),
+            Some(read) => self.take(alloc, read, line),
             None => Ok(false),
         }
     }
 
-    fn take(&mut self, alloc: Global, line: CertLine) -> Result<bool, AllocError>
+    // Takes a line, which the bytes spell, and says whether it may come.
+    fn take(&mut self, alloc: Global, line: CertLine, bytes: &[u8]) -> Result<bool, AllocError>
         requires sound { IsSoundReader self.old }
+        requires spelled { bytes.now ≡ line_text line }
         requires few { length self.old.nodes < 2 ^ 63 }
-        ensures took { IfOk result (Took (step (state_of self.old) line) (state_of self.new)) }
+        ensures took { IfOk result (Took (steps (standing_of self.old) line) (standing_of self.new)) }
         ensures sound { OnOk result (IsSoundReader self.new) }
         ensures few { OnOk result (length self.new.nodes ≤ length self.old.nodes + 1) }
     {
         match step(self.place, &line) {
             Some(place) => {
+                if !self.named.take(alloc, &line, bytes)? {
+                    return Ok(false);
+                }
                 self.add(alloc, line, place)?;
                 Ok(true)
             }
@@ -121,12 +131,14 @@ impl Reader {
 
     // Adds a line behind which the place is the one given.
     fn add(&mut self, alloc: Global, line: CertLine, place: Place) -> Result<(), AllocError>
+        ensures named { OnOk result (self.new.named ≡ self.old.named) }
         ensures place { OnOk result (self.new.place ≡ place) }
         ensures certificate { OnOk result (self.new.certificate ≡ certificate_with line place self.old.certificate self.old.nodes) }
         ensures nodes { OnOk result (self.new.nodes ≡ nodes_with line place self.old.nodes) }
     {
         self.place = place;
         match line {
+            CertLine::Head { version } => self.certificate.version = version,
             CertLine::Sizes { patterns, rows } => {
                 self.certificate.patterns = patterns;
                 self.certificate.rows = rows;
@@ -136,13 +148,14 @@ impl Reader {
             CertLine::Cut(patterns) => self.certificate.cuts.push(patterns)?,
             CertLine::Level(_) | CertLine::Unfinished(_) => self.nodes = Items::new(alloc),
             CertLine::Node(node) => self.add_node(alloc, node, place)?,
-            CertLine::Head | CertLine::Cuts(_) | CertLine::End(_) => {}
+            CertLine::Cuts(_) | CertLine::End(_) => {}
         }
         Ok(())
     }
 
     // Adds a node, and ends the tree where the place says so.
     fn add_node(&mut self, alloc: Global, node: Node, place: Place) -> Result<(), AllocError>
+        ensures named { OnOk result (self.new.named ≡ self.old.named) }
         ensures place { OnOk result (self.new.place ≡ self.old.place) }
         ensures certificate { OnOk result (self.new.certificate ≡ ended place (self.old.nodes ++ node ∷ []) self.old.certificate) }
         ensures nodes { OnOk result (self.new.nodes ≡ nodes_after place (self.old.nodes ++ node ∷ [])) }
@@ -168,6 +181,7 @@ impl Reader {
         ensures nodes { self.new.nodes ≡ [] }
         ensures place { self.new.place ≡ self.old.place }
         ensures certificate { self.new.certificate ≡ self.old.certificate }
+        ensures named { self.new.named ≡ self.old.named }
     {
         let nodes = mem::replace(&mut self.nodes, Items::new(alloc));
         Tree { nodes }

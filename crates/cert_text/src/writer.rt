@@ -7,6 +7,7 @@ ghost use Rattle.cert_text.specs.Spelling.{line_text, term_fields, leaf_fields, 
 ghost use Rattle.cert_text.specs.Grammar.{blocks, open_block, front, opening_of};
 ghost use Rattle.cert_text.specs.Text.{fed, text_of};
 ghost use Rattle.cert_text.specs.Writing.{blank_before, lined};
+ghost use Rattle.cert_text.specs.Sharing.{leaf_text};
 
 use crate::lines::{Certificate, Tree};
 use duality::{Leaf, Node, RowName, Term};
@@ -37,9 +38,9 @@ fn write_all(bytes: &mut Vec<u8>, c: &Certificate) -> Result<(), AllocError>
 
 // The lines before the cuts.
 fn write_opening(bytes: &mut Vec<u8>, c: &Certificate) -> Result<(), AllocError>
-    ensures { OnOk result (bytes.new.items ≡ bytes.old.items ++ fed (map line_text (lines.Head ∷ (lines.Sizes c.now.patterns c.now.rows ∷ (lines.Choice c.now.choice ∷ (lines.Values c.now.values ∷ (lines.Cuts (length c.now.cuts) ∷ []))))))) }
+    ensures { OnOk result (bytes.new.items ≡ bytes.old.items ++ fed (map line_text (lines.Head c.now.version ∷ (lines.Sizes c.now.patterns c.now.rows ∷ (lines.Choice c.now.choice ∷ (lines.Values c.now.values ∷ (lines.Cuts (length c.now.cuts) ∷ []))))))) }
 {
-    bytes.extend_from_slice(b"rooms-certificate 1\n")?;
+    write_single(bytes, b"rooms-certificate", c.version as usize)?;
     write_sizes(bytes, c.patterns, c.rows)?;
     write_counted(bytes, b"choice", c.choice.as_slice())?;
     write_values(bytes, &c.values)?;
@@ -184,12 +185,29 @@ fn write_node(bytes: &mut Vec<u8>, node: &Node) -> Result<(), AllocError>
 fn write_leaf(bytes: &mut Vec<u8>, leaf: &Leaf) -> Result<(), AllocError>
     ensures { OnOk result (bytes.new.items ≡ bytes.old.items ++ lined (line_text (lines.Node (nodes.Leaf leaf.now)))) }
 {
+    write_leaf_text(bytes, leaf)?;
+    bytes.push(b'\n')?;
+    Ok(())
+}
+
+// A leaf's line without its line feed.
+fn write_leaf_text(bytes: &mut Vec<u8>, leaf: &Leaf) -> Result<(), AllocError>
+    ensures { OnOk result (bytes.new.items ≡ bytes.old.items ++ leaf_text leaf.now) }
+{
     bytes.extend_from_slice(b"leaf")?;
     write_whole(bytes, leaf.scale)?;
     write_natural(bytes, leaf.terms.len())?;
     write_terms(bytes, leaf.terms.as_slice())?;
-    bytes.push(b'\n')?;
     Ok(())
+}
+
+/// The line of a leaf, without its line feed.
+pub fn leaf_text(alloc: Global, leaf: &Leaf) -> Result<Vec<u8>, AllocError>
+    ensures { IfOk result (λ v. v.items ≡ leaf_text leaf.now) }
+{
+    let mut bytes = Vec::new(alloc);
+    write_leaf_text(&mut bytes, leaf)?;
+    Ok(bytes)
 }
 
 fn write_terms(bytes: &mut Vec<u8>, terms: &[Term]) -> Result<(), AllocError>

@@ -14,10 +14,11 @@ use Rattle.packing_model.specs.Built.{model_limit}
 use Rattle.problem_core.specs.Kept.{IsWithin}
 use Rattle.duality.specs.Sums.{is_small}
 use Rattle.cert_text.specs.declared.lines.Certificate.{Certificate}
-use Rattle.cert_text.specs.declared.lines.CertLine.TheVariants.{Sizes, Choice, Values, Cuts, Cut, End}
+use Rattle.cert_text.specs.declared.lines.CertLine.TheVariants.{Head, Sizes, Choice, Values, Cuts, Cut, End}
 use Rattle.cert_text.specs.Spelling.{in_bounds}
 use Rattle.cert_text.specs.Grammar.{blocks, open_block, lines_of, is_shaped, is_writable}
 use Rattle.cert_text.specs.Text.{certificate_of}
+use Rattle.cert_text.proofs.TextLaws.{writable_is}
 use Rattle.cert_checker.specs.declared.verdict.Verdict.{Verdict}
 use Rattle.cert_checker.specs.declared.verdict.Verdict.TheVariants.{Verified}
 use Rattle.cert_checker.specs.Verdicts.{verdict_of, IsProof, Means}
@@ -126,8 +127,8 @@ all_small (v ∷ vs) h =
 values_small : (c : Certificate) → is_writable c ≡ true → list_all (is_small (10 ^ 12)) c.values ≡ true
 values_small c h =
     let rest = blocks 0 c.levels ++ (open_block (length c.levels) c.unfinished ++ (End (length c.levels) ∷ [])) in
-    let lines = and_parts (is_shaped c) (list_all in_bounds (lines_of c)) h in
-    let sizes = and_parts (in_bounds (Sizes c.patterns c.rows)) (list_all in_bounds (Choice c.choice ∷ (Values c.values ∷ (Cuts (length c.cuts) ∷ (map Cut c.cuts ++ rest))))) lines.1 in
+    let head = and_parts (in_bounds (Head c.version)) (list_all in_bounds (Sizes c.patterns c.rows ∷ (Choice c.choice ∷ (Values c.values ∷ (Cuts (length c.cuts) ∷ (map Cut c.cuts ++ rest)))))) (writable_is c h).bounded in
+    let sizes = and_parts (in_bounds (Sizes c.patterns c.rows)) (list_all in_bounds (Choice c.choice ∷ (Values c.values ∷ (Cuts (length c.cuts) ∷ (map Cut c.cuts ++ rest))))) head.1 in
     let choice = and_parts (in_bounds (Choice c.choice)) (list_all in_bounds (Values c.values ∷ (Cuts (length c.cuts) ∷ (map Cut c.cuts ++ rest)))) sizes.1 in
     let values = and_parts (in_bounds (Values c.values)) (list_all in_bounds (Cuts (length c.cuts) ∷ (map Cut c.cuts ++ rest))) choice.1 in
     (and_parts (length c.values == 6) (list_all (is_small (10 ^ 12)) c.values) values.0).1

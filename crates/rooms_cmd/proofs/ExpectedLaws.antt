@@ -32,6 +32,7 @@ use Rattle.rooms_cmd.specs.Checks.{certificate_limit, HasModel, IsLongCertificat
 use Rattle.cert_text.specs.declared.lines.Certificate.{Certificate}
 use Rattle.cert_text.specs.Grammar.{is_writable}
 use Rattle.cert_text.specs.Text.{IsText, certificate_of}
+use Rattle.cert_text.specs.Sharing.{plain}
 use Rattle.cert_checker.specs.declared.verdict.Verdict.TheVariants.{Verified}
 use Rattle.cert_checker.specs.Faults.{fault_of}
 use Rattle.cert_checker.specs.Verdicts.{IsValid, verdict_of, judged}
@@ -395,13 +396,13 @@ illegal_run tells held words before now faults faults' old new status h q s =
 
 pub valid_run : (tells : Bool) (held : Held) (words : List (List ℕ)) (before now faults faults' : ℕ) (old new : Option (List ℕ)) (status : Status)
     → ((bytes : List ℕ) (c : Certificate) → IsText bytes c → certificate_of bytes ≡ Ok c)
-    → ((f : Facts) (c : Certificate) → is_writable c ≡ true → fault_of f c ≡ None ↔ IsValid f (length c.levels) c)
+    → ((f : Facts) (c : Certificate) → is_writable c ≡ true → fault_of f (plain c) ≡ None ↔ IsValid f (length c.levels) c)
     → RunEnds tells held words before now faults faults' old new status → IsQuiet tells before now faults faults' → IsCheck words (IsValidInput tells held)
     → (status ≡ Done) ⊎ (status ≡ Memory)
 valid_run tells held words before now faults faults' old new status read faultless h q s =
     let f = s.holds in
     let p = problem_of f.i f.t f.m in
-    let clear : fault_of p f.certificate ≡ None = (faultless p f.certificate f.text.bounded).1 f.valid in
+    let clear : fault_of p (plain f.certificate) ≡ None = (faultless p f.certificate f.text.bounded).1 f.valid in
     let verdict : verdict_of p (certificate_of f.bytes) ≡ Verified (length f.certificate.levels) f.certificate.values =
     ap (verdict_of p) (read f.bytes f.certificate f.text) ∙ ap (judged (length f.certificate.levels) f.certificate.values) clear in
     let e : expected held words ≡ of_verdict (Verified (length f.certificate.levels) f.certificate.values) =

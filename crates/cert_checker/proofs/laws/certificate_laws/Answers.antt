@@ -1,6 +1,7 @@
 use Rattle.problem_core.specs.Facts.{Facts}
+use Rattle.cert_text.specs.Sharing.{plain}
 use Rattle.meeting_patterns.specs.Pattern.{AreCoursesKnown, patterns_of}
-use Rattle.cert_checker.proofs.ValidLaws.{valid_is, valid_from}
+use Rattle.cert_checker.proofs.ValidLaws.{form_is, form_from}
 use Rattle.cert_checker.proofs.BestLaws.{PackingLaws, valid_best, tree_best}
 use Rattle.cert_checker.proofs.laws.certificate_laws.Goals as goal
 
@@ -12,7 +13,7 @@ returns c =
       weighs = λ a legal k. c.packing_laws.ensures.measured f (patterns_of f) a known (c.pattern_laws.ensures.listed f) legal k;
     } in
     record {
-      faultless = λ f q w. (valid_is c.leaf_laws.ensures.faultless f q w, valid_from c.leaf_laws.ensures.faultless f q w);
-      best = λ f n q known few valid. valid_best c.tree_laws.ensures.caps f (laws f known) n q few valid;
+      faultless = λ f q w. (form_is c.leaf_laws.ensures.faultless f q w, form_from c.leaf_laws.ensures.faultless f q w);
+      best = λ f n q known few valid. valid_best c.tree_laws.ensures.caps f (laws f known) n (plain q) few valid;
       tree = λ f s v nodes known cliques best proved b legal has. tree_best c.tree_laws.ensures.caps f (laws f known) s v nodes cliques best proved b legal has;
     }

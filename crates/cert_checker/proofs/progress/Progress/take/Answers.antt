@@ -8,7 +8,7 @@ judge-requires-clause-room c = room_for c.args.self.now.place c.args.line c.in-S
 
 pub returns-in_ok-judge-in-Some-clause-stands : goal.returns-in_ok-judge-in-Some-clause-stands
 returns-in_ok-judge-in-Some-clause-stands c =
-    stands_next c.args.m.now c.args.self.now c.judge.new.self c.in-Some.place c.args.line c.requires.bounds (sym c.step.ensures ∙ c.in-Some.is) c.in_ok-judge-in-Some.ensures
+    stands_next c.args.m.now c.args.self.now c.judge.new.self c.in-Some.place c.args.line c.requires.bounds c.requires.plain (sym c.step.ensures ∙ c.in-Some.is) c.in_ok-judge-in-Some.ensures
 
 pub returns-in_ok-judge-in-Some-clause-kept : goal.returns-in_ok-judge-in-Some-clause-kept
 returns-in_ok-judge-in-Some-clause-kept c = λ ok.

@@ -1,0 +1,5 @@
+//! Worked cases of certificates in both versions: tests alone.
+#![tactic(auto)]
+
+#[cfg(test)]
+mod forms;
