@@ -1,2 +1,4 @@
 pub mod LevelLaws
 pub mod AccountLaws
+pub mod WritingLaws
+pub mod SolveLaws

@@ -2,5 +2,7 @@
 #![tactic(auto)]
 
 mod search;
+mod solve;
 
 pub use search::{Search, Stopped, search_levels};
+pub use solve::{Solved, solve_levels};
