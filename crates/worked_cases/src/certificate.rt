@@ -2,8 +2,6 @@ ghost use Rattle.std.specs.Prelude.{◌≤◌, IfOk};
 ghost use Rattle.cert_checker.specs.Trees.{IsNodeWithin};
 
 use crate::model::{Task, judge};
-use crate::objective::SomePatterns;
-use crate::shape::one_meeting;
 use cert_checker::{Reason, TreeAt, Verdict, Walk, check};
 use cert_text::Node;
 use duality::FLOOR_LEVEL;
@@ -12,6 +10,7 @@ use std::alloc::{AllocError, Global};
 use std::process::Abort;
 use std::test::Fail;
 use values::Items;
+use worked_shapes::{SomePatterns, one_meeting};
 
 /// The lines before the first tree of a certificate of one meeting in one room: one pattern and two base rows.
 const FRONT: &str =

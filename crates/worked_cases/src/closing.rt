@@ -7,8 +7,6 @@ ghost use Rattle.packing_model.specs.Rising.{is_rising};
 ghost use Rattle.packing_model.specs.Nodes.{IsValidFixing};
 
 use crate::model::{Task, judge};
-use crate::shape::{closed_once, one_meeting, week};
-use duality::is_before;
 use packing_model::{
     At, Cut, CutFault, Fixing, Leaf, LeafFault, Model, Pool, PoolFault, RowName, Term, leaf_closes,
 };
@@ -16,6 +14,10 @@ use std::alloc::{AllocError, Global};
 use std::process::Abort;
 use std::test::Fail;
 use values::Items;
+use worked_shapes::{
+    are_multipliers, are_rising, are_values, closed_once, is_multiplier, is_value, one_meeting,
+    week,
+};
 
 /// What is done with the first pattern.
 #[derive(Clone, Copy)]
@@ -39,59 +41,6 @@ fn fixing_of(alloc: Global, model: &Model, first: First) -> Result<Fixing, Fail>
         First::Taken => fixing.add_one(0)?,
     }
     Ok(fixing)
-}
-
-/// Whether the rows of the terms are in strict order.
-fn are_rising(terms: &[Term]) -> bool
-    ensures { result ≡ rises terms.now }
-{
-    let Some((first, rest)) = terms.split_first() else {
-        return true;
-    };
-    let mut last = first.row;
-    for term in rest {
-        if !is_before(last, term.row) {
-            return false;
-        }
-        last = term.row;
-    }
-    true
-}
-
-/// Whether the multipliers are at most 10^24 in size.
-fn are_multipliers(terms: &[Term]) -> bool
-    ensures { result ≡ are_small terms.now }
-{
-    for term in terms {
-        if !is_multiplier(term.times) {
-            return false;
-        }
-    }
-    true
-}
-
-fn is_multiplier(times: i128) -> bool
-    ensures { result ≡ is_small (10 ^ 24) times }
-{
-    times.unsigned_abs() <= 1_000_000_000_000_000_000_000_000
-}
-
-/// Whether the values are at most 10^12 in size.
-pub fn are_values(values: &[i64]) -> bool
-    ensures { result ≡ list_all (is_small (10 ^ 12)) values.now }
-{
-    for value in values {
-        if !is_value(*value) {
-            return false;
-        }
-    }
-    true
-}
-
-pub fn is_value(value: i64) -> bool
-    ensures { result ≡ is_small (10 ^ 12) value }
-{
-    value.unsigned_abs() <= 1_000_000_000_000
 }
 
 /// The verdict on the leaf at the level after the targets, without cuts.

@@ -6,10 +6,7 @@ ghost use Rattle.packing_model.specs.Nodes.{IsValidFixing, fixed_of};
 ghost use Rattle.search_nodes.specs.Paths.{IsWalk};
 ghost use Rattle.node_bound.specs.Bounds.{has_free};
 
-use crate::closing::{are_values, is_value};
 use crate::model::{Task, judge};
-use crate::objective::SomePatterns;
-use crate::shape::closed_once;
 use duality::FLOOR_LEVEL;
 use node_bound::{Bounded, close_fixed, close_fixed_at, lowest_free};
 use packing_model::{At, Fixing, Leaf, Model, ObjectiveAt, Pool, RowName};
@@ -19,6 +16,7 @@ use std::alloc::Global;
 use std::process::Abort;
 use std::test::Fail;
 use values::Items;
+use worked_shapes::{SomePatterns, are_values, closed_once, is_value};
 
 /// What is counted at a node.
 #[derive(Clone, Copy)]

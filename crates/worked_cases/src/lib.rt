@@ -15,8 +15,6 @@ mod limits;
 #[cfg(test)]
 mod model;
 #[cfg(test)]
-mod objective;
-#[cfg(test)]
 mod packing;
 #[cfg(test)]
 mod points;
@@ -24,7 +22,5 @@ mod points;
 mod problem;
 #[cfg(test)]
 mod rounding;
-#[cfg(test)]
-mod shape;
 #[cfg(test)]
 mod terms;

@@ -4,13 +4,13 @@ use crate::fixed::judge_fixed;
 use crate::packing::{judge_closed_once, judge_sizes};
 use crate::points::{Case, judge_points};
 use crate::rounding::judge_rounding;
-use crate::shape::{Shape, problem_of};
 use cert_checker::Reason;
 use packing_model::Model;
 use problem_core::BuildFault;
 use std::alloc::Global;
 use std::process::Abort;
 use std::test::Fail;
+use worked_shapes::{Shape, problem_of};
 
 /// What is judged of a model.
 #[derive(Clone, Copy)]

@@ -1,5 +1,4 @@
 use crate::model::{Task, judge};
-use crate::shape::{closed_once, two_courses, week};
 use meeting_patterns::{chosen, to_choice};
 use packing_model::{Model, Row, Run};
 use problem_core::Choice;
@@ -7,6 +6,7 @@ use std::alloc::{AllocError, Global};
 use std::process::Abort;
 use std::test::Fail;
 use values::Items;
+use worked_shapes::{closed_once, two_courses, week};
 
 /// That the model has so many patterns and base rows.
 pub fn judge_sizes(rt: &impl Abort, model: &Model, patterns: u32, rows: u32) -> Result<(), Fail> {

@@ -6,13 +6,13 @@ ghost use Rattle.packing_model.specs.Rising.{is_rising, rises_from};
 ghost use Rattle.search_nodes.specs.Points.{IsPointOf, is_part};
 
 use crate::model::{Task, judge};
-use crate::shape::{Shape, one_meeting, two_courses};
 use clique_cuts::separate;
 use packing_model::{Model, Point};
 use std::alloc::Global;
 use std::process::Abort;
 use std::test::Fail;
 use values::Items;
+use worked_shapes::{Shape, one_meeting, two_courses};
 
 /// A point, and lists of patterns one of which is in the cut that it breaks; where there is no list, it
 /// breaks none.

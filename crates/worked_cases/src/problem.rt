@@ -1,10 +1,10 @@
-use crate::shape::{Shape, closed_once, one_meeting, problem_of, problem_of_small_courses, week};
 use meeting_patterns::{PatternSet, count};
 use problem_core::{BuildFault, Choice, Problem, RoomFault, better, first_choice};
 use std::alloc::Global;
 use std::process::Abort;
 use std::test::Fail;
 use values::Items;
+use worked_shapes::{Shape, closed_once, one_meeting, problem_of, problem_of_small_courses, week};
 
 /// What is found of a choice: its values, else what is wrong with it.
 #[derive(Clone, Copy, PartialEq, Eq)]

@@ -2,16 +2,15 @@ ghost use Rattle.std.specs.Prelude.{IfOk};
 ghost use Rattle.packing_model.specs.Built.{packing};
 ghost use Rattle.search_nodes.specs.Points.{IsPointOf};
 
-use crate::closing::are_values;
 use crate::model::{Task, judge};
 use crate::points::{Case, point_of};
-use crate::shape::two_courses;
 use clique_cuts::rounded;
 use packing_model::{Fixing, Measured, Model, ObjectiveAt, Point, Pool};
 use problem_core::Choice;
 use std::alloc::Global;
 use std::process::Abort;
 use std::test::Fail;
+use worked_shapes::{are_values, two_courses};
 
 /// A point at a level of the measures with the targets of those below and a best value, and the rooms that
 /// are better, where there are such.

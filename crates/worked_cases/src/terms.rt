@@ -11,7 +11,7 @@ struct Numbered;
 impl Objective for Numbered {
     ghost use Rattle.std.specs.Prelude.{◌^◌, pos, None};
     ghost use Rattle.packing_model.specs.Measures.{none-within};
-    ghost use Rattle.worked_cases.specs.Objectives.{two_levels, one_pattern, level-within};
+    ghost use Rattle.worked_shapes.specs.Objectives.{two_levels, one_pattern, level-within};
 
     ghost count = { λ _. 1 };
 

@@ -4,8 +4,6 @@ ghost use Rattle.packing_model.specs.Cuts.{IsPoolOf};
 ghost use Rattle.packing_model.specs.Nodes.{IsValidFixing};
 ghost use Rattle.search_nodes.specs.Paths.{IsWalk};
 
-use crate::closing::{are_multipliers, are_rising, are_values, is_multiplier, is_value};
-use crate::shape::{Shape, closed_once, one_meeting, problem_of, two_courses, week};
 use exact_num::{Arith, Exact64, Exact128, Refusing, Steps};
 use node_bound::{Bounded, bound};
 use packing_model::{At, Cut, Fixing, Leaf, Model, Point, Pool, is_free, leaf_closes};
@@ -16,6 +14,10 @@ use std::marker::Brand;
 use std::process::Abort;
 use std::sync::ledger::{Blank, Ledger};
 use std::test::Fail;
+use worked_shapes::{
+    Shape, are_multipliers, are_rising, are_values, closed_once, is_multiplier, is_value,
+    one_meeting, problem_of, two_courses, week,
+};
 
 /// What is known at a node.
 #[derive(Clone, Copy)]

@@ -5,5 +5,3 @@
 mod forms;
 #[cfg(test)]
 mod pieces;
-#[cfg(test)]
-mod shape;

@@ -64,23 +64,91 @@ struct Case {
 }
 
 const CASES: [Case; 17] = [
-    Case { head: "rooms-certificate 1\n", levels: "level 1\nleaf 0 0\nend 1\n", line: None },
-    Case { head: "rooms-certificate 1\n", levels: "level 1\nbranch 0\nleaf 0 0\nleaf 0 0\nend 1\n", line: None },
-    Case { head: "rooms-certificate 1\n", levels: "level 1\nbranch 0\nleaf 0 0\nsame 0\nend 1\n", line: Some(9) },
-    Case { head: "rooms-certificate 2\n", levels: "level 1\nbranch 0\nleaf 0 0\nsame 0\nend 1\n", line: None },
-    Case { head: "rooms-certificate 2\n", levels: "level 1\nbranch 0\nleaf 0 0\nleaf 0 0\nend 1\n", line: Some(9) },
-    Case { head: "rooms-certificate 2\n", levels: "level 1\nbranch 0\nleaf 0 0\nsame 1\nend 1\n", line: Some(9) },
-    Case { head: "rooms-certificate 2\n", levels: "level 1\nbranch 0\nsame 0\nleaf 0 0\nend 1\n", line: Some(8) },
-    Case { head: "rooms-certificate 2\n", levels: "level 1\nsame 0\nend 1\n", line: Some(7) },
-    Case { head: "rooms-certificate 2\n", levels: "level 1\nleaf 0 0\nlevel 2\nsame 0\nend 2\n", line: None },
-    Case { head: "rooms-certificate 2\n", levels: "level 1\nleaf 0 0\nlevel 2\nsame 00\nend 2\n", line: Some(9) },
-    Case { head: "rooms-certificate 2\n", levels: "level 1\nleaf 0 0\nlevel 2\nsame 18446744073709551616\nend 2\n", line: Some(9) },
-    Case { head: "rooms-certificate 2\n", levels: "level 1\nleaf 0 0\nlevel 2\nsame 0 0\nend 2\n", line: Some(9) },
-    Case { head: "rooms-certificate 2\n", levels: "level 1\nleaf 0 0\nunfinished 2\nsame 0\nend 1\n", line: Some(9) },
-    Case { head: "rooms-certificate 2\n", levels: "level 1\nleaf 0 0\nunfinished 2\nbranch 0\nopen\nsame 0\nend 1\n", line: None },
-    Case { head: "rooms-certificate 3\n", levels: "end 0\n", line: Some(1) },
-    Case { head: "rooms-certificate 0\n", levels: "end 0\n", line: Some(1) },
-    Case { head: "rooms-certificate 02\n", levels: "end 0\n", line: Some(1) },
+    Case {
+        head: "rooms-certificate 1\n",
+        levels: "level 1\nleaf 0 0\nend 1\n",
+        line: None,
+    },
+    Case {
+        head: "rooms-certificate 1\n",
+        levels: "level 1\nbranch 0\nleaf 0 0\nleaf 0 0\nend 1\n",
+        line: None,
+    },
+    Case {
+        head: "rooms-certificate 1\n",
+        levels: "level 1\nbranch 0\nleaf 0 0\nsame 0\nend 1\n",
+        line: Some(9),
+    },
+    Case {
+        head: "rooms-certificate 2\n",
+        levels: "level 1\nbranch 0\nleaf 0 0\nsame 0\nend 1\n",
+        line: None,
+    },
+    Case {
+        head: "rooms-certificate 2\n",
+        levels: "level 1\nbranch 0\nleaf 0 0\nleaf 0 0\nend 1\n",
+        line: Some(9),
+    },
+    Case {
+        head: "rooms-certificate 2\n",
+        levels: "level 1\nbranch 0\nleaf 0 0\nsame 1\nend 1\n",
+        line: Some(9),
+    },
+    Case {
+        head: "rooms-certificate 2\n",
+        levels: "level 1\nbranch 0\nsame 0\nleaf 0 0\nend 1\n",
+        line: Some(8),
+    },
+    Case {
+        head: "rooms-certificate 2\n",
+        levels: "level 1\nsame 0\nend 1\n",
+        line: Some(7),
+    },
+    Case {
+        head: "rooms-certificate 2\n",
+        levels: "level 1\nleaf 0 0\nlevel 2\nsame 0\nend 2\n",
+        line: None,
+    },
+    Case {
+        head: "rooms-certificate 2\n",
+        levels: "level 1\nleaf 0 0\nlevel 2\nsame 00\nend 2\n",
+        line: Some(9),
+    },
+    Case {
+        head: "rooms-certificate 2\n",
+        levels: "level 1\nleaf 0 0\nlevel 2\nsame 18446744073709551616\nend 2\n",
+        line: Some(9),
+    },
+    Case {
+        head: "rooms-certificate 2\n",
+        levels: "level 1\nleaf 0 0\nlevel 2\nsame 0 0\nend 2\n",
+        line: Some(9),
+    },
+    Case {
+        head: "rooms-certificate 2\n",
+        levels: "level 1\nleaf 0 0\nunfinished 2\nsame 0\nend 1\n",
+        line: Some(9),
+    },
+    Case {
+        head: "rooms-certificate 2\n",
+        levels: "level 1\nleaf 0 0\nunfinished 2\nbranch 0\nopen\nsame 0\nend 1\n",
+        line: None,
+    },
+    Case {
+        head: "rooms-certificate 3\n",
+        levels: "end 0\n",
+        line: Some(1),
+    },
+    Case {
+        head: "rooms-certificate 0\n",
+        levels: "end 0\n",
+        line: Some(1),
+    },
+    Case {
+        head: "rooms-certificate 02\n",
+        levels: "end 0\n",
+        line: Some(1),
+    },
 ];
 
 fn judge_case(rt: &impl Abort, alloc: Global, case: &Case) -> Result<(), Fail> {
@@ -89,7 +157,14 @@ fn judge_case(rt: &impl Abort, alloc: Global, case: &Case) -> Result<(), Fail> {
     text.push_str(case.levels)?;
     let found = match read_cert(alloc, text.as_bytes()) {
         Ok(_) => None,
-        Err(TextFault::Line(LineFault { line, kind: LineKind::Text })) => Some(line),
+        Err(
+            TextFault::Line(
+                LineFault {
+                    line,
+                    kind: LineKind::Text,
+                },
+            ),
+        ) => Some(line),
         Err(_) => Some(0),
     };
     assert!(rt; found == case.line);

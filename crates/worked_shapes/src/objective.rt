@@ -24,7 +24,7 @@ impl SomePatterns {
 
 impl Objective for SomePatterns {
     ghost use Rattle.std.specs.Prelude.{pos, Some};
-    ghost use Rattle.worked_cases.specs.Objectives.{one_level, weight-within, floor-within};
+    ghost use Rattle.worked_shapes.specs.Objectives.{one_level, weight-within, floor-within};
 
     ghost count = { λ o. o.count };
 

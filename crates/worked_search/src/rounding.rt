@@ -1,4 +1,3 @@
-use crate::shape::{Shape, one_meeting, problem_of, two_courses};
 use clique_cuts::rounded;
 use packing_model::{Fixing, Measured, Model, ObjectiveAt, Point, Pool};
 use problem_core::{BuildFault, Choice};
@@ -6,6 +5,7 @@ use std::alloc::Global;
 use std::process::Abort;
 use std::test::Fail;
 use values::Items;
+use worked_shapes::{Shape, one_meeting, problem_of, two_courses};
 
 /// A point at a level of the measures with the targets of those below and a best value, and the rooms that
 /// are better, where there are such.

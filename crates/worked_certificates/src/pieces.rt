@@ -1,10 +1,10 @@
-use crate::shape::{Shape, one_meeting, problem_of};
 use cert_checker::{Checker, Reason, Verdict, check};
 use packing_model::Model;
 use problem_core::{BuildFault, Memory};
 use std::alloc::Global;
 use std::process::Abort;
 use std::test::Fail;
+use worked_shapes::{Shape, one_meeting, problem_of};
 
 /// Six levels that close at their root, the last by the leaf of the fourth.
 const SHARED: &[u8] =
@@ -48,7 +48,13 @@ fn judge_pieces(
 
 fn judge_texts(rt: &impl Abort, alloc: Global, model: &Model) -> Result<(), Fail> {
     let values = [1, 10, 500, 0, -1, 0];
-    judge_pieces(rt, alloc, model, SHARED, Verdict::Verified { levels: 6, values })?;
+    judge_pieces(
+        rt,
+        alloc,
+        model,
+        SHARED,
+        Verdict::Verified { levels: 6, values },
+    )?;
     let reason = Reason::NotFree { pattern: 0 };
     judge_pieces(rt, alloc, model, TWICE, Verdict::Not { line: 8, reason })?;
     let reason = Reason::Text;
