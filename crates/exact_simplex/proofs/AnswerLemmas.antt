@@ -22,6 +22,7 @@ use Rattle.exact_simplex.specs.Rows.{ForcesAll}
 use Rattle.simplex_tableau.specs.declared.state.RowState.TheVariants as state
 use Rattle.exact_simplex.specs.Drive.{Keeps, IsUnbounded, EndsAt}
 use Rattle.exact_simplex.specs.Empty.{ShowsEmptyFraction}
+use Rattle.exact_simplex.specs.Keeping.{IsDual}
 use Rattle.exact_simplex.specs.Final.{Describes, AreSettled}
 use Rattle.exact_simplex.proofs.FinalLaws.{optimum}
 use Rattle.exact_simplex.specs.Point.{variable_value}
@@ -70,15 +71,15 @@ num-take value (suc k) (x ∷ xs) (suc i) l = num-take value k xs i (omega (arit
 -- ---- the best point
 
 pub best_from : {N : Type 0} (value : N → ℚ) (lp : Lp) (task : Task N) (p : Progress N) (y x z : List N) (basis : List ℕ) (point : List N) → Describes value lp task → IsProgress value task p → AreSettled lp p.states.items
-    → IsRow value (size_of task) p.tableau (length lp.rows) y → IsExtreme value task p.states.items y true
+    → IsDual value task p (length lp.rows) y → IsExtreme value task p.states.items y true
     → basis ≡ p.tableau.basis.items → point ≡ p.tableau.point.items → AreValues value task.columns basis point x → ((i : ℕ) → i < length lp.rows → num value z i ≡ num value y i)
     → IsOptimum lp (num value x) (num value z)
-best_from value lp task p y x z basis point describes is settled row extreme basis_is point_is values z_same =
+best_from value lp task p y x z basis point describes is settled dual extreme basis_is point_is values z_same =
     optimum_same lp (variable_value (basis_of p.tableau) (point_of value p.tableau) (size_of task)) (num value y) (num value x) (num value z)
     (λ j l. values.same j (let c = describes.columns in omega arith)
     ∙ ap₂ (λ b q. variable_value (λ r. get_or b r 0) (num value q) (length b) j) basis_is point_is
     ∙ ap (λ k. variable_value (basis_of p.tableau) (point_of value p.tableau) k j) is.shape.basis_length)
-    z_same (optimum value lp task p y describes is settled row extreme)
+    z_same (optimum value lp task p y describes is settled dual extreme)
 
 -- ---- the answers
 

@@ -1,5 +1,5 @@
 -- Laws of specs/Drive.
-use Rattle.std.proofs.Common.{ℕ, ◌≡◌, ◌≢◌, ◌+◌, ◌<◌, ◌≤◌, sym, ◌∙◌, ap, subst, List, Bool, Option, Some, None, arith, refl}
+use Rattle.std.proofs.Common.{ℕ, ◌≡◌, ◌≢◌, ◌+◌, ◌<◌, ◌≤◌, sym, ◌∙◌, ap, subst, List, Bool, Option, Some, None, arith, refl, length}
 use Rattle.exact_num.specs.Q.{ℚ}
 use Rattle.std.proofs.Common.{get_or}
 use Rattle.std.proofs.Math.Decide.{ℕ_discrete}
@@ -18,7 +18,7 @@ use Rattle.simplex_tableau.specs.Inverse.{inv_of, list_at, Makes}
 use Rattle.simplex_tableau.specs.States.{state_of, Limits}
 use Rattle.simplex_tableau.specs.Tableau.{basis_of, inverse_of, point_of}
 use Rattle.simplex_tableau.specs.Leave.{state_there, FindsLeaving}
-use Rattle.exact_simplex.specs.Enter.{Helps, Chooses, product}
+use Rattle.exact_simplex.specs.Enter.{Helps, Chooses, product, MayHelp}
 use Rattle.simplex_tableau.specs.declared.leave.Leaving.{Leaving}
 use Rattle.simplex_tableau.specs.declared.state.RowState.{RowState}
 use Rattle.exact_simplex.specs.Progress.{size_of, column_of, side_of, IsTaskLists, IsProgress, IsRow, Advances}
@@ -70,16 +70,15 @@ unbounded_blocked value task p y up row entering made lists is l is_row free lim
     free.free row l (limits (subst (λ q. Helps up q) same free.helps.helps))
 
 -- what was chosen, made and not found, in the words of the caller
-pub unbounded_is : {N : Type 0} (value : N → ℚ) (task : Task N) (p : Progress N) (y : List N) (up : Bool) (v m : ℕ) (states' states'' : List RowState) (inverse' : List (List (Entry N))) (column' made made' : List (Entry N)) (o : Option ℕ) (f : Option (Leaving N))
-    → o ≡ Some v → states' ≡ p.states.items → Chooses value task states' y up o
+pub unbounded_is : {N : Type 0} (value : N → ℚ) (task : Task N) (p : Progress N) (y : List N) (up : Bool) (v m : ℕ) (states'' : List RowState) (inverse' : List (List (Entry N))) (column' made made' : List (Entry N)) (f : Option (Leaving N))
+    → v < length task.lists.items → MayHelp value task p.states.items y up v
     → inverse' ≡ p.tableau.inverse.items → column' ≡ list_at task.lists.items v → Makes value inverse' column' made
     → m ≡ size_of task → states'' ≡ p.states.items → made' ≡ made → f ≡ None → FindsLeaving value m task.columns states'' p.tableau made' f
     → IsUnbounded value task p y up v made
-unbounded_is value task p y up v m states' states'' inverse' column' made made' o f is same chosen i_same c_same makes m_same s_same made_same none found =
-    let picked : Chooses value task p.states.items y up (Some v) = subst (λ s. Chooses value task s y up (Some v)) same (subst (λ q. Chooses value task states' y up q) is chosen) in
+unbounded_is value task p y up v m states'' inverse' column' made made' f below helps i_same c_same makes m_same s_same made_same none found =
     record {
-      below = picked.0;
-      helps = picked.1;
+      below = below;
+      helps = helps;
       makes = subst (λ c. Makes value p.tableau.inverse.items c made) c_same (subst (λ i. Makes value i column' made) i_same makes);
       free = subst (λ l. FindsLeaving value (size_of task) task.columns p.states.items p.tableau l None) made_same
           (subst (λ s. FindsLeaving value (size_of task) task.columns s p.tableau made' None) s_same

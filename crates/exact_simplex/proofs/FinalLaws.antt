@@ -29,6 +29,7 @@ use Rattle.exact_simplex.specs.declared.task.RowKind.TheVariants as kind
 use Rattle.simplex_tableau.specs.declared.state.RowState.{RowState}
 use Rattle.simplex_tableau.specs.declared.state.RowState.TheVariants as state
 use Rattle.exact_simplex.specs.Final.{AreSettled, Describes}
+use Rattle.exact_simplex.specs.Keeping.{IsDual}
 
 pub product_is : {N : Type 0} (value : N → ℚ) (task : Task N) (y : List N) (v : ℕ) → IsTaskLists task → v < task.columns + size_of task → product value task y v ≡ dot (num value y) (column_of value task v) (size_of task)
 product_is value task y v lists l = sym (sum-at value (num value y) (list_at task.lists.items v) (size_of task) (lists.below v l))
@@ -46,9 +47,21 @@ row_signs kind.Equal s y is sign = tt
 pub last_apart : (f : ℕ → ℚ) (m size : ℕ) → size ≡ m + 1 → sum_ℚ f size ≡ sum_ℚ f m +ℚ f m
 last_apart f m size e = ap (sum_ℚ f) e ∙ sum_ℚ-more f m (f m) refl
 
+-- the row of the inverse at the place of the gain's slack
+pub dual_of_row : {N : Type 0} (value : N → ℚ) (lp : Lp) (task : Task N) (p : Progress N) (y : List N) → Describes value lp task → IsProgress value task p → AreSettled lp p.states.items
+    → IsRow value (size_of task) p.tableau (length lp.rows) y → IsDual value task p (length lp.rows) y
+dual_of_row value lp task p y describes is settled row =
+    let below : length lp.rows < size_of task = let e = describes.size in omega arith in
+    record {
+      one_each = row.one_each;
+      own = row_at_own (size_of task) task.columns (length lp.rows) (column_of value task) (side_of value task) (basis_of p.tableau) (inverse_of value p.tableau) (point_of value p.tableau) (num value y) describes.slacks is.basis below row.same (length lp.rows) below
+          (is.feasible.own_place (length lp.rows) below settled.gain);
+      total = row_value (size_of task) task.columns (length lp.rows) (column_of value task) (side_of value task) (basis_of p.tableau) (inverse_of value p.tableau) (point_of value p.tableau) (num value y) describes.slacks is.basis below row.same;
+    }
+
 module _ {N : Type 0} (value : N → ℚ) (lp : Lp) (task : Task N) (p : Progress N) (y : List N)
     (describes : Describes value lp task) (is : IsProgress value task p) (settled : AreSettled lp p.states.items)
-    (row : IsRow value (size_of task) p.tableau (length lp.rows) y) (extreme : IsExtreme value task p.states.items y true) where
+    (dual : IsDual value task p (length lp.rows) y) (extreme : IsExtreme value task p.states.items y true) where
   m : ℕ
   m = length lp.rows
 
@@ -85,8 +98,7 @@ module _ {N : Type 0} (value : N → ℚ) (lp : Lp) (task : Task N) (p : Progres
       let size = size_of task in
       let n = task.columns in
       let columns : lp.columns ≡ n = sym describes.columns in
-      let one : num value y (length lp.rows) ≡ one_ℚ
-      = row_at_own size n (length lp.rows) (column_of value task) (side_of value task) (basis_of p.tableau) (inverse_of value p.tableau) (point_of value p.tableau) (num value y) describes.slacks is.basis m_below row.same (length lp.rows) m_below own_place in
+      let one : num value y (length lp.rows) ≡ one_ℚ = dual.own in
       record {
         x_sign = λ j l. variable_value-nonneg size j (basis_of p.tableau) (point_of value p.tableau) (λ q k e. value_there j q state.AtLeast k e (state_of-column n p.states.items j (let c = columns in omega arith)));
         rows = λ i l.
@@ -118,6 +130,6 @@ module _ {N : Type 0} (value : N → ℚ) (lp : Lp) (task : Task N) (p : Progres
             ∙ ap₂ (λ a b. a +ℚ b) (sum_ℚ-same (λ i. num value y i *ℚ side_of value task i) (λ i. num value y i *ℚ int_ℚ (row_at lp i).side) (length lp.rows) (λ i h. ap (λ u. num value y i *ℚ u) (describes.sides i h)))
             (ap (λ u. num value y (length lp.rows) *ℚ u) describes.no_side ∙ *ℚ-zero (num value y (length lp.rows))) ∙ +ℚ-zero (sum_ℚ (λ i. num value y i *ℚ int_ℚ (row_at lp i).side) (length lp.rows)) in
             ap (sum_ℚ (λ j. x j *ℚ int_ℚ (int_at lp.gain j))) columns ∙ gained ∙ there
-            ∙ sym (row_value size n (length lp.rows) (column_of value task) (side_of value task) (basis_of p.tableau) (inverse_of value p.tableau) (point_of value p.tableau) (num value y) describes.slacks is.basis m_below row.same)
+            ∙ sym dual.total
             ∙ side;
       }

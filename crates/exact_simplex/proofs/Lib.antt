@@ -15,3 +15,4 @@ pub mod StartLemmas
 pub mod ValueLemmas
 pub mod RayLemmas
 pub mod AnswerLemmas
+pub mod KeepingLaws

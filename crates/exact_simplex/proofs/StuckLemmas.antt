@@ -22,7 +22,7 @@ use Rattle.exact_simplex.specs.declared.force.Blocked.{Blocked}
 use Rattle.exact_simplex.specs.declared.force.Blocked.TheVariants as blocked
 use Rattle.exact_simplex.specs.Final.{Describes}
 use Rattle.exact_simplex.proofs.FinalLaws.{product_is, last_apart}
-use Rattle.exact_simplex.specs.Rows.{AreForced, Ascends, AscendsTo, ForcesAll}
+use Rattle.exact_simplex.specs.Rows.{AreForced, ForcesAll}
 use Rattle.exact_simplex.specs.Scaled.{IsMultiplierFraction}
 use Rattle.exact_simplex.specs.Empty.{ShowsEmptyFraction}
 use Rattle.exact_simplex.specs.Task.{cell, row_at}
@@ -139,9 +139,3 @@ blocked_all {N = N} value lp task limit a b c s t u r k o h describes l kind_is 
       let w = e.1.shown.one_each in let v = e.1.stuck.is_row.one_each in omega arith,
     )
     by_case blocked.Stalled e = (counts_then limit a b c s t u first e.0, e.1)
-
--- ---- rows that are in force from the start
-
--- the gain was driven up and its drive did not reach the limit
-pub ascended : {N : Type 0} (value : N → ℚ) (task : Task N) (limit : ℕ) (old new : Progress N) (steps steps' : ℕ) (b : Bool) → b ≡ false → AscendsTo value task limit old new steps steps' b → Ascends value task limit old new steps steps'
-ascended value task limit old new steps steps' b is h = subst (λ c. AscendsTo value task limit old new steps steps' c) is h

@@ -41,10 +41,6 @@ pub record Ascends {N : Type 0} (value : N → ℚ) (task : Task N) (limit : ℕ
   pub counts : Counts limit old new steps steps'
   pub states : new.states ≡ old.states
 
-abbrev pub AscendsTo : {N : Type 0} → (N → ℚ) → Task N → ℕ → Progress N → Progress N → ℕ → ℕ → Bool → Type 0
-AscendsTo value task limit old new steps steps' true = Ascends value task limit old new steps steps' × (new.pivots ≡ limit)
-AscendsTo value task limit old new steps steps' false = Ascends value task limit old new steps steps'
-
 abbrev pub ForcesAll : {N : Type 0} → (N → ℚ) → Lp → Task N → ℕ → Progress N → Progress N → ℕ → ℕ → Option (Blocked N) → Type 0
 ForcesAll value lp task limit old new steps steps' None = Counts limit old new steps steps' × IsProgress value task new × AreSettled lp new.states.items
 ForcesAll value lp task limit old new steps steps' (Some (blocked.Empty z)) = Counts limit old new steps steps' × ShowsEmptyFraction lp (num value z.items) × (length z.items ≡ size_of task)

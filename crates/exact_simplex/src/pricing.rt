@@ -27,6 +27,10 @@ pub(crate) struct Pricing {
     list: Vec<usize>,
     /// For each variable whether it comes in only where no other helps; none where the list is empty.
     frozen: Vec<bool>,
+    /// For each variable whether it would take a kept row away from its extreme; none where the list is empty.
+    held: Vec<bool>,
+    /// The kept rows: equations at their extreme, whose slacks stand in the basis at 0.
+    kept: Vec<u32>,
     /// How many columns are priced for the list at a time.
     block: usize,
 }
@@ -45,6 +49,8 @@ impl Pricing {
             own: Vec::new(alloc),
             list: Vec::new(alloc),
             frozen: Vec::new(alloc),
+            held: Vec::new(alloc),
+            kept: Vec::new(alloc),
             block: BLOCK,
         }
     }
@@ -55,6 +61,22 @@ impl Pricing {
     {
         self.own = columns_of(alloc, entries)?;
         Ok(())
+    }
+
+    /// Whether a row is kept.
+    pub(crate) fn holds(&self) -> bool {
+        !self.kept.is_empty()
+    }
+
+    /// The kept rows.
+    pub(crate) fn kept(&self) -> &[u32] {
+        &self.kept
+    }
+
+    /// Keeps no row any more.
+    pub(crate) fn let_go(&mut self, alloc: Global) {
+        self.held = Vec::new(alloc);
+        self.kept = Vec::new(alloc);
     }
 
     /// Prices all columns alike from now on, and keeps none back.
@@ -78,12 +100,17 @@ fn columns_of(alloc: Global, entries: &[(u32, i64)]) -> Result<Vec<usize>, Fault
     Ok(columns)
 }
 
-/// Whether a variable comes in only where no other helps.
-fn is_frozen(frozen: &[bool], variable: usize) -> bool {
-    match frozen.get(variable) {
-        Some(is_frozen) => *is_frozen,
+/// Whether a list says yes of a variable.
+fn is_marked(list: &[bool], variable: usize) -> bool {
+    match list.get(variable) {
+        Some(is_marked) => *is_marked,
         None => false,
     }
+}
+
+/// Whether a variable is not tried.
+fn is_kept_back(pricing: &Pricing, variable: usize) -> bool {
+    is_marked(&pricing.held, variable) || is_marked(&pricing.frozen, variable)
 }
 
 /// The better of the variable found so far and another with its product: the one that moves the slack of
@@ -111,13 +138,13 @@ fn best_slack<N: Fraction>(
     states: &[RowState],
     y: &[N],
     up: bool,
-    frozen: &[bool],
+    pricing: &Pricing,
 ) -> Option<Priced<N>> {
     let mut best = None;
     for (i, state) in states.iter().enumerate() {
         if let (RowState::AtLeast, Some(number)) = (state, y.get(i)) {
             let variable = columns.saturating_add(i);
-            if is_helpful(up, *number) && !is_frozen(frozen, variable) {
+            if is_helpful(up, *number) && !is_kept_back(pricing, variable) {
                 best = better(up, best, variable, *number);
             }
         }
@@ -131,7 +158,7 @@ fn helping_product<A: Arith>(
     task: &Task<A::Num>,
     y: &[A::Num],
     up: bool,
-    frozen: &[bool],
+    pricing: &Pricing,
     variable: usize,
 ) -> Result<Option<A::Num>, Fault>
     requires task { IsTaskLists task.now }
@@ -141,7 +168,7 @@ fn helping_product<A: Arith>(
     if variable >= task.lists.len() {
         return Ok(None);
     }
-    if is_frozen(frozen, variable) {
+    if is_kept_back(pricing, variable) {
         return Ok(None);
     }
     let product = price(arith, y, task.lists[variable].as_slice())?;
@@ -158,7 +185,7 @@ fn price_list<A: Arith>(
     task: &Task<A::Num>,
     y: &[A::Num],
     up: bool,
-    frozen: &[bool],
+    pricing: &Pricing,
     list: &[usize],
     before: Option<Priced<A::Num>>,
 ) -> Result<(Vec<usize>, Option<Priced<A::Num>>), Fault>
@@ -169,7 +196,7 @@ fn price_list<A: Arith>(
     let mut kept = Vec::new(alloc);
     let mut best = before;
     for variable in list {
-        if let Some(product) = helping_product(arith, task, y, up, frozen, *variable)? {
+        if let Some(product) = helping_product(arith, task, y, up, pricing, *variable)? {
             append_number(&mut kept, *variable)?;
             best = better(up, best, *variable, product);
         }
@@ -211,30 +238,12 @@ fn propose<A: Arith>(
     requires y { length y.now ≡ size_of task.now }
     ensures { Ends (A.wides arith.old) (A.wides arith.new) Anything result }
 {
-    let (_, own) = price_list(
-        alloc,
-        arith,
-        task,
-        y,
-        up,
-        &pricing.frozen,
-        &pricing.own,
-        None,
-    )?;
+    let (_, own) = price_list(alloc, arith, task, y, up, pricing, &pricing.own, None)?;
     if let Some(found) = own {
         return Ok(Some(found.variable));
     }
-    let slack = best_slack(task.columns, states, y, up, &pricing.frozen);
-    let (kept, best) = price_list(
-        alloc,
-        arith,
-        task,
-        y,
-        up,
-        &pricing.frozen,
-        &pricing.list,
-        slack,
-    )?;
+    let slack = best_slack(task.columns, states, y, up, pricing);
+    let (kept, best) = price_list(alloc, arith, task, y, up, pricing, &pricing.list, slack)?;
     pricing.list = kept;
     Ok(variable_of(best))
 }
@@ -255,7 +264,7 @@ fn refill<A: Arith>(
 {
     let end = first.saturating_add(pricing.block).min(task.columns);
     let block = stretch(alloc, first, end)?;
-    let (kept, best) = price_list(alloc, arith, task, y, up, &pricing.frozen, &block, None)?;
+    let (kept, best) = price_list(alloc, arith, task, y, up, pricing, &block, None)?;
     pricing.list = kept;
     Ok(variable_of(best))
 }
@@ -307,6 +316,57 @@ fn first_of_block<A: Arith>(
     match accepted(arith, task, states, y, up, proposed)? {
         Some(variable) => Ok(variable),
         None => Ok(first),
+    }
+}
+
+/// The first variable that may come in and helps, of those that keep the kept rows at their extremes.
+fn first_free<A: Arith>(
+    arith: &mut A,
+    task: &Task<A::Num>,
+    states: &[RowState],
+    y: &[A::Num],
+    up: bool,
+    pricing: &Pricing,
+) -> Result<Option<usize>, Fault>
+    requires task { IsTaskLists task.now }
+    requires y { length y.now ≡ size_of task.now }
+    ensures { Ends (A.wides arith.old) (A.wides arith.new) (Accepts A.Num.value task.now states.now y.now up) result }
+{
+    for variable in 0..task.lists.len() {
+        if !is_marked(&pricing.held, variable) {
+            if is_candidate(arith, task, states, y, up, variable)? {
+                return Ok(Some(variable));
+            }
+        }
+    }
+    Ok(None)
+}
+
+/// A variable that may come in and helps, and keeps the kept rows at their extremes. Nothing is said where
+/// none is given.
+pub(crate) fn choose_free<A: Arith>(
+    alloc: Global,
+    arith: &mut A,
+    task: &Task<A::Num>,
+    states: &[RowState],
+    y: &[A::Num],
+    up: bool,
+    pricing: &mut Pricing,
+) -> Result<Option<usize>, Fault>
+    requires task { IsTaskLists task.now }
+    requires y { length y.now ≡ size_of task.now }
+    ensures { Ends (A.wides arith.old) (A.wides arith.new) (Accepts A.Num.value task.now states.now y.now up) result }
+{
+    let proposed = propose(alloc, arith, task, states, y, up, pricing)?;
+    if let Some(variable) = accepted(arith, task, states, y, up, proposed)? {
+        return Ok(Some(variable));
+    }
+    match first_free(arith, task, states, y, up, pricing)? {
+        None => Ok(None),
+        Some(first) => {
+            let best = first_of_block(alloc, arith, task, states, y, up, pricing, first)?;
+            Ok(Some(best))
+        }
     }
 }
 
@@ -370,4 +430,33 @@ pub(crate) fn freeze<A: Arith>(
 {
     pricing.frozen = moving(alloc, arith, task, y)?;
     Ok(())
+}
+
+/// The variables of either list.
+fn either(alloc: Global, one: &[bool], other: &[bool]) -> Result<Vec<bool>, Fault>
+    ensures err { IfErr result (λ e. e ≡ fault.Memory) }
+{
+    let mut found = Vec::new(alloc);
+    for (variable, is_marked_there) in one.iter().enumerate() {
+        append_number(&mut found, *is_marked_there || is_marked(other, variable))?;
+    }
+    Ok(found)
+}
+
+/// Keeps a row from now on.
+pub(crate) fn keep<A: Arith>(
+    alloc: Global,
+    arith: &mut A,
+    task: &Task<A::Num>,
+    y: &[A::Num],
+    row: u32,
+    pricing: &mut Pricing,
+) -> Result<(), Fault>
+    requires task { IsTaskLists task.now }
+    requires y { length y.now ≡ size_of task.now }
+    ensures { Ends (A.wides arith.old) (A.wides arith.new) Anything result }
+{
+    let moving = moving(alloc, arith, task, y)?;
+    pricing.held = either(alloc, &moving, &pricing.held)?;
+    append_number(&mut pricing.kept, row)
 }

@@ -5,13 +5,13 @@ ghost use Rattle.simplex_tableau.specs.Ends.{Ends};
 ghost use Rattle.exact_simplex.specs.Final.{Describes};
 ghost use Rattle.exact_simplex.specs.Force.{WaitsOrHolds, ForcesTo};
 ghost use Rattle.exact_simplex.specs.Progress.{IsProgress, IsTaskLists, size_of};
-ghost use Rattle.exact_simplex.specs.Rows.{AreForced, ForcesAll, LeadsTo, AscendsTo};
+ghost use Rattle.exact_simplex.specs.Rows.{AreForced, ForcesAll, LeadsTo, Ascends};
 ghost use Rattle.exact_simplex.specs.Start.{Starts};
 ghost use Rattle.exact_simplex.specs.Task.{IsTask};
 ghost use Rattle.simplex_tableau.specs.declared.state.RowState.TheVariants as state;
 
-use crate::drive::{Driven, drive};
 use crate::force::{Blocked, force_row, row_of, set_state};
+use crate::keeping::drive_kept;
 use crate::pricing::{Pricing, freeze};
 use crate::progress::{Progress, Task};
 use crate::task::{Lp, LpRow, Plan, RowKind};
@@ -60,7 +60,7 @@ pub(crate) fn lead_rows<N: Fraction>(
     }
 }
 
-/// Drives the gain up, whatever it comes to. Says whether the pivots reached their limit.
+/// Drives the gain up, whatever it comes to, and keeps back what would lower it.
 fn ascend<A: Arith, L: Ledger>(
     alloc: Global,
     arith: &mut A,
@@ -70,30 +70,25 @@ fn ascend<A: Arith, L: Ledger>(
     pricing: &mut Pricing,
     gain: u32,
     limit: u64,
-) -> Result<bool, Fault>
+) -> Result<(), Fault>
     requires task { IsTaskLists task.now }
     requires progress { IsProgress A.Num.value task.now progress.old }
     requires within { progress.old.pivots ≤ limit }
     requires gain { gain < size_of task.now }
     requires waits { get_or progress.old.states.items gain state.Waiting ≡ state.Waiting }
-    ensures ends { Ends (A.wides arith.old) (A.wides arith.new) (AscendsTo A.Num.value task.now limit progress.old progress.new steps.old steps.new) result }
+    ensures ends { Ends (A.wides arith.old) (A.wides arith.new) (λ _. Ascends A.Num.value task.now limit progress.old progress.new steps.old steps.new) result }
     ensures later { steps.old ≤ steps.new }
 {
     let mut y = row_of(alloc, arith, &progress.tableau.inverse, gain)?;
-    match drive(
+    if drive_kept(
         alloc, arith, steps, task, progress, pricing, &mut y, gain, true, limit,
     )? {
-        Driven::Left => Ok(false),
-        Driven::Stuck => {
-            freeze(alloc, arith, task, &y, pricing)?;
-            Ok(false)
-        }
-        Driven::Unbounded { .. } => Ok(false),
-        Driven::Stalled => Ok(true),
+        return Ok(());
     }
+    freeze(alloc, arith, task, &y, pricing)
 }
 
-/// Drives the gain up where the plan says so, before row `row`. Says whether the pivots reached their limit.
+/// Drives the gain up where the plan says so, before row `row`.
 fn ascend_before<A: Arith, L: Ledger>(
     alloc: Global,
     arith: &mut A,
@@ -105,22 +100,22 @@ fn ascend_before<A: Arith, L: Ledger>(
     row: u32,
     gain: u32,
     limit: u64,
-) -> Result<bool, Fault>
+) -> Result<(), Fault>
     requires task { IsTaskLists task.now }
     requires progress { IsProgress A.Num.value task.now progress.old }
     requires within { progress.old.pivots ≤ limit }
     requires gain { gain < size_of task.now }
     requires waits { get_or progress.old.states.items gain state.Waiting ≡ state.Waiting }
-    ensures ends { Ends (A.wides arith.old) (A.wides arith.new) (AscendsTo A.Num.value task.now limit progress.old progress.new steps.old steps.new) result }
+    ensures ends { Ends (A.wides arith.old) (A.wides arith.new) (λ _. Ascends A.Num.value task.now limit progress.old progress.new steps.old steps.new) result }
     ensures later { steps.old ≤ steps.new }
 {
     match plan.ascent {
-        None => Ok(false),
+        None => Ok(()),
         Some(before) => {
             if before == row {
                 return ascend(alloc, arith, steps, task, progress, pricing, gain, limit);
             }
-            Ok(false)
+            Ok(())
         }
     }
 }
@@ -212,11 +207,9 @@ pub(crate) fn force_rows<A: Arith, L: Ledger>(
     let rows = lp.rows.as_slice();
     for i in 0..rows.len() {
         let gain = rows.len() as u32;
-        if ascend_before(
+        ascend_before(
             alloc, arith, steps, task, progress, pricing, plan, i as u32, gain, limit,
-        )? {
-            return Ok(Some(Blocked::Stalled));
-        }
+        )?;
         if let Some(blocked) = take_row(
             alloc, arith, steps, task, progress, pricing, plan, i as u32, &rows[i], limit,
         )? {

@@ -4,8 +4,9 @@ ghost use Rattle.exact_simplex.specs.Ray.{IsDirection};
 ghost use Rattle.simplex_tableau.specs.Sparse.{PlacesBelow};
 ghost use Rattle.exact_simplex.specs.Answer.{Answers, AnswersBest, Concludes, ConcludesAfter};
 ghost use Rattle.simplex_tableau.specs.Ends.{Ends};
+ghost use Rattle.exact_simplex.specs.Keeping.{IsDual};
 ghost use Rattle.exact_simplex.specs.Final.{Describes, AreSettled};
-ghost use Rattle.exact_simplex.specs.Progress.{IsProgress, IsRow, size_of};
+ghost use Rattle.exact_simplex.specs.Progress.{IsProgress, size_of};
 ghost use Rattle.exact_simplex.specs.Task.{IsTask, pivot_limit};
 
 use crate::answer::{best, empty, ray};
@@ -13,6 +14,7 @@ use crate::build::build;
 use crate::column_values::values_of_columns;
 use crate::drive::{Driven, drive};
 use crate::force::{Blocked, row_of};
+use crate::multipliers::ascend_kept;
 use crate::pricing::Pricing;
 use crate::progress::{Progress, Task};
 use crate::rows::{force_rows, lead_rows};
@@ -43,7 +45,7 @@ fn best_point<A: Arith>(
     requires describes { Describes A.Num.value lp.now task.now }
     requires progress { IsProgress A.Num.value task.now progress.now }
     requires settled { AreSettled lp.now progress.now.states.items }
-    requires row { IsRow A.Num.value (size_of task.now) progress.now.tableau (length lp.now.rows) y.now }
+    requires dual { IsDual A.Num.value task.now progress.now (length lp.now.rows) y.now }
     requires extreme { IsExtreme A.Num.value task.now progress.now.states.items y.now true }
     ensures { Ends (A.wides arith.old) (A.wides arith.new) (AnswersBest lp.now) result }
 {
@@ -76,8 +78,8 @@ fn direction<A: Arith>(
     values_of_columns(alloc, arith, task.columns, &variables, &moves)
 }
 
-/// Drives the gain up from a point that meets the rows.
-fn raise_gain<A: Arith, L: Ledger>(
+/// Drives the gain up from a point that meets the rows, by whatever helps.
+fn raise_fully<A: Arith, L: Ledger>(
     alloc: Global,
     arith: &mut A,
     steps: &mut Steps<L>,
@@ -110,6 +112,40 @@ fn raise_gain<A: Arith, L: Ledger>(
         Driven::Stalled => Ok(LpAnswer::Stalled {
             pivots: progress.pivots,
         }),
+    }
+}
+
+/// Drives the gain up from a point that meets the rows. Where rows are kept, that they stay kept is tried
+/// first.
+fn raise_gain<A: Arith, L: Ledger>(
+    alloc: Global,
+    arith: &mut A,
+    steps: &mut Steps<L>,
+    lp: &Lp,
+    task: &Task<A::Num>,
+    progress: &mut Progress<A::Num>,
+    pricing: &mut Pricing,
+    limit: u64,
+) -> Result<LpAnswer, Fault>
+    requires task { IsTask lp.now }
+    requires limit { limit ≡ pivot_limit lp.now }
+    requires describes { Describes A.Num.value lp.now task.now }
+    requires progress { IsProgress A.Num.value task.now progress.old }
+    requires settled { AreSettled lp.now progress.old.states.items }
+    requires within { progress.old.pivots ≤ limit }
+    ensures ends { Ends (A.wides arith.old) (A.wides arith.new) (ConcludesAfter lp.now progress.old.pivots steps.old steps.new) result }
+    ensures later { steps.old ≤ steps.new }
+{
+    if !pricing.holds() {
+        return raise_fully(alloc, arith, steps, lp, task, progress, pricing, limit);
+    }
+    let gain = lp.rows.len() as u32;
+    match ascend_kept(alloc, arith, steps, task, progress, pricing, gain, limit)? {
+        Some(y) => best_point(alloc, arith, lp, task, progress, &y),
+        None => {
+            pricing.let_go(alloc);
+            raise_fully(alloc, arith, steps, lp, task, progress, pricing, limit)
+        }
     }
 }
 

@@ -18,6 +18,6 @@ pub use dense::{add_times, append_number, price, repeated};
 pub use fault::Fault;
 pub use inverse::ftran;
 pub use leave::{Leaving, find_leaving, state_at};
-pub use products::{plus_times, times};
+pub use products::{is_one, plus_times, times};
 pub use sparse::{Entry, number_at, sign};
 pub use state::RowState;

@@ -8,7 +8,7 @@ use exact_num::{Arith, Fraction};
 use std::cmp::Ordering;
 
 /// Whether a number is 1.
-fn is_one<N: Fraction>(x: N) -> bool
+pub fn is_one<N: Fraction>(x: N) -> bool
     ensures { result ≡ true → N.value x ≡ one_ℚ }
 {
     if x.num() != 1 {

@@ -3,4 +3,4 @@
 
 #[cfg(test)]
 mod answers;
-mod tasks;
+pub mod tasks;

@@ -56,7 +56,7 @@ fn are_in_range(columns: u32, rows: &[LpRow]) -> bool
 }
 
 /// Whether a task is one.
-fn is_task(lp: &Lp) -> bool
+pub fn is_task(lp: &Lp) -> bool
     ensures { result ≡ true → IsTask lp.now }
 {
     if lp.gain.len() != lp.columns as usize {

@@ -1,0 +1,5 @@
+use Rattle.std.proofs.Common.{◌≡◌}
+use Rattle.exact_simplex.proofs.pricing.first_free.Given as goal
+
+abbrev pub invariant-loop-variable : goal.invariant-loop-variable
+invariant-loop-variable g l = g.A.Arith.wides l.arith ≡ g.A.Arith.wides l.fn.arith
