@@ -11,7 +11,7 @@ top=$(cd "$(dirname "$0")/.." && pwd)
 work=$(mktemp -d)
 trap 'rm -rf "$work"' EXIT
 bench="$work/crates/nodes_bench"
-mkdir -p "$bench/src" "$bench/specs" "$bench/proofs/are_values"
+mkdir -p "$bench/src" "$bench/specs" "$bench/proofs/are_values" "$bench/proofs/time"
 for name in values numbers duality exact_num exact_simplex problem_core meeting_patterns packing_model search_nodes clique_cuts node_bound; do
     mkdir "$work/crates/$name"
     for part in src specs proofs; do
@@ -198,6 +198,12 @@ fn main(rt: HostRuntime) -> io::Result<()> {
 }
 PROGRAM
 sed 's/worked_cases.proofs.closing/nodes_bench.proofs/' "$top/crates/worked_cases/proofs/closing/are_values/Invariants.antt" >"$bench/proofs/are_values/Invariants.antt"
+cat >"$bench/proofs/time/Invariants.antt" <<'PICK'
+use Rattle.nodes_bench.proofs.time.Given as goal
+
+abbrev pub ghosts-root : goal.ghosts-root
+ghosts-root a = record { name = a.blank.name; parts = a.blank.parts }
+PICK
 cd "$bench"
 rt run >"$work/log" 2>&1 || { cat "$work/log"; exit 1; }
 grep '^  ' "$work/log"
