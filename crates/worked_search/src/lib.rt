@@ -1,7 +1,5 @@
-//! Worked cases of the bounds of nodes, and of choices that are rounded out of points: tests alone.
+//! Worked cases of the bounds of nodes: tests alone.
 #![tactic(auto)]
 
 #[cfg(test)]
 mod bounds;
-#[cfg(test)]
-mod rounding;
