@@ -1,5 +1,5 @@
 -- The open ends of a tree that was left.
-use Rattle.std.proofs.Common.{ℕ, ◌≡◌, ◌<◌, ◌≤◌, ◌+◌, ◌-◌, ◌^◌, arith, refl, sym, ◌∙◌, ap, ap₂, subst, zero, suc, Bool, true, false, ◌||◌, List, [], ◌∷◌, ◌++◌, length, length-append, drop, take, drop-cons, get_or, add-one, append_assoc}
+use Rattle.std.proofs.Common.{ℕ, ◌≡◌, ◌<◌, ◌≤◌, ◌+◌, ◌-◌, ◌^◌, arith, refl, sym, ◌∙◌, ap, ap₂, subst, zero, suc, Bool, true, false, List, [], ◌∷◌, ◌++◌, length, drop, take, drop-cons, get_or, add-one, append_assoc}
 use Rattle.std.specs.Prelude.{ℤ, slice_get, if◌then◌else◌, Option, Some, None}
 use Rattle.std.specs.List.{list_any, All}
 use Rattle.std.proofs.lemmas.Int.{ints}
@@ -15,7 +15,7 @@ use Rattle.duality.specs.Packing.{Packing, Weights, Stage, Fixing}
 use Rattle.duality.specs.Tree.{nothing_fixed}
 use Rattle.duality.specs.Walk.{Step, step_at, later, fixing_of, pending_of}
 use Rattle.duality.specs.Stages.{IsUp}
-use Rattle.duality.specs.After.{after, are_right, is_open, open_ends, first_of, fixing_at}
+use Rattle.duality.specs.After.{after, are_right, is_open, open_ends, first_of}
 use Rattle.duality.specs.Units.{branch_count, free_count, most_units}
 use Rattle.duality.proofs.AfterLaws.{after_append, right_append, right_proves}
 use Rattle.duality.proofs.UnitLaws.{units_most, root_free, free_some}

@@ -1,6 +1,6 @@
 -- The pattern of a point to branch on is free.
-use Rattle.std.proofs.Common.{ℕ, ◌≡◌, arith, sym, ◌∙◌, ap, refl, Bool, true, false, not, ◌&&◌, ◌||◌, List, [], ◌∷◌, map, inl, inr}
-use Rattle.std.specs.Prelude.{ℤ, pos, ◌==◌, nat_lt, int_lt, if◌then◌else◌, Option, Some, None}
+use Rattle.std.proofs.Common.{ℕ, ◌≡◌, arith, sym, ◌∙◌, ap, true, false, not, ◌||◌, List, [], ◌∷◌, map, inl, inr}
+use Rattle.std.specs.Prelude.{ℤ, pos, ◌==◌, nat_lt, int_lt, if◌then◌else◌, Some, None}
 use Rattle.std.specs.List.{list_all, list_any}
 use Rattle.std.specs.Ordering.{int_eq}
 use Rattle.std.proofs.lemmas.Bool.{and_parts, and_from, cases_Bool, eqb-true, eq-eqb, ltb-true, or_right, not-true, true≢false}

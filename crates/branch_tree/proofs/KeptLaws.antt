@@ -1,5 +1,5 @@
 -- What was done so far stays done.
-use Rattle.std.proofs.Common.{ℕ, ◌≡◌, ◌≤◌, ◌+◌, ◌*◌, arith, refl, sym, ◌∙◌, ap, suc, List, [], ◌∷◌, ◌++◌, map, length, length-append, take, inl, inr}
+use Rattle.std.proofs.Common.{ℕ, ◌≡◌, ◌+◌, arith, refl, sym, ◌∙◌, ap, suc, List, [], ◌∷◌, ◌++◌, length, length-append, take, inl, inr}
 use Rattle.std.specs.Prelude.{ℤ, Option, Result, Ok, Err, IfOk}
 use Rattle.std.proofs.Math.Seq.{take-length, take-append_seam}
 use Rattle.std.proofs.lemmas.List.{length-map}
@@ -11,7 +11,7 @@ use Rattle.packing_model.specs.Cuts.{IsPoolOf, IsCutOf}
 use Rattle.problem_core.specs.declared.choice.Memory.{Memory}
 use Rattle.branch_tree.specs.Growths.{value_of, Goes}
 use Rattle.branch_tree.specs.Kept.{Keeps, NotesCut}
-use Rattle.branch_tree.specs.Logs.{Beginning, IsLogged, Moment, branches_from, place_of, moment}
+use Rattle.branch_tree.specs.Logs.{IsLogged, Moment, branches_from, place_of}
 use Rattle.branch_tree.specs.declared.level.Held.{Held}
 use Rattle.branch_tree.specs.declared.log.CutNote.{CutNote}
 use Rattle.branch_tree.specs.declared.log.Log.{Log}
@@ -19,7 +19,6 @@ use Rattle.branch_tree.specs.declared.log.Unit.{Unit as BranchUnit}
 use Rattle.branch_tree.specs.declared.state.Step.{Step}
 use Rattle.branch_tree.specs.declared.state.Step.TheVariants.{On}
 use Rattle.branch_tree.proofs.EndLaws.{first_stays}
-use Rattle.branch_tree.proofs.LogLaws.{logged_begins}
 use Rattle.branch_tree.proofs.StepLaws.{pool_more}
 
 more_first : {A : Type 0} (xs ys zs : List A) → ys ≡ xs ++ zs → take (length xs) ys ≡ xs

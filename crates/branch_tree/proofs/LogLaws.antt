@@ -1,12 +1,11 @@
 -- The log goes on with the tree.
-use Rattle.std.proofs.Common.{ℕ, ◌≡◌, ◌<◌, ◌≤◌, ◌+◌, ◌-◌, ◌*◌, ◌^◌, arith, refl, sym, ◌∙◌, ap, ap₂, subst, zero, suc, Bool, true, false, List, [], ◌∷◌, ◌++◌, map, length, length-append, take, append_assoc, append-nil, inl, inr, get_or}
-use Rattle.std.specs.Prelude.{ℤ, ◌<ℤ◌, ◌⊎◌, Option, Some, None, slice_index_or, min}
+use Rattle.std.proofs.Common.{ℕ, ◌≡◌, ◌≤◌, ◌+◌, arith, refl, sym, ◌∙◌, ap, ap₂, subst, zero, suc, true, false, List, [], ◌∷◌, ◌++◌, map, length, length-append, take, append_assoc, append-nil, inl, inr}
+use Rattle.std.specs.Prelude.{ℤ, ◌<ℤ◌, Option, Some, slice_index_or}
 use Rattle.std.specs.List.{All, list_any}
-use Rattle.std.proofs.lemmas.Int.{ints}
 use Rattle.std.proofs.lemmas.Bool.{cases_lt}
 use Rattle.std.proofs.lemmas.List.{take-append-le, get_or_push, get_or_append_left}
 use Rattle.std.proofs.lemmas.List.Elements.{All-append}
-use Rattle.std.proofs.Math.Seq.{take-length, take-append_seam}
+use Rattle.std.proofs.Math.Seq.{take-length}
 use Rattle.duality.specs.declared.leaf.Leaf.{Leaf}
 use Rattle.duality.specs.declared.leaf.Node.{Node}
 use Rattle.duality.specs.declared.leaf.Node.TheVariants.{Branch, Leaf as Closing, OpenEnd, Same}
@@ -28,7 +27,7 @@ use Rattle.branch_tree.specs.declared.log.Cause.{Cause}
 use Rattle.branch_tree.specs.declared.log.Cause.TheVariants.{Gap, Wide, Stalled}
 use Rattle.branch_tree.specs.declared.log.Unit.{Unit as BranchUnit}
 use Rattle.branch_tree.specs.declared.log.CutNote.{CutNote}
-use Rattle.branch_tree.specs.Trees.{LogsTree, IsOpenLogged}
+use Rattle.branch_tree.specs.Trees.{LogsTree}
 use Rattle.branch_tree.specs.declared.tree.TreeGrown.{TreeGrown}
 use Rattle.branch_tree.proofs.EndLaws.{up_through, first_open}
 use Rattle.node_bound.specs.Bounds.{has_free}

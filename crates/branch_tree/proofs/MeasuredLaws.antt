@@ -1,14 +1,13 @@
 -- A tree over the six measures in words of the measures.
-use Rattle.std.proofs.Common.{ℕ, ◌≡◌, ◌<◌, ◌≤◌, ◌+◌, ◌-◌, ◌^◌, arith, refl, sym, ◌∙◌, ap, subst, zero, suc, Bool, true, false, List, [], ◌∷◌, map, length, take}
-use Rattle.std.specs.Prelude.{ℤ, pos, ◌≤ℤ◌, Option, Some, None, slice_index_or, min}
-use Rattle.std.specs.List.{list_all, All}
+use Rattle.std.proofs.Common.{ℕ, ◌≡◌, ◌<◌, ◌≤◌, ◌+◌, ◌-◌, ◌^◌, arith, refl, sym, ◌∙◌, ap, subst, zero, suc, Bool, true, false, List, [], ◌∷◌, length, take}
+use Rattle.std.specs.Prelude.{ℤ, pos, ◌≤ℤ◌, Some, slice_index_or, min}
 use Rattle.std.proofs.lemmas.Int.{ints}
 use Rattle.std.proofs.lemmas.List.{length-take, get_or-take}
 use mir.Syntax.{w64}
 use mir.Val.{to_z, of_z}
 use Rattle.problem_core.specs.Facts.{Facts}
 use Rattle.problem_core.specs.Choice.{IsLegal}
-use Rattle.problem_core.specs.Measures.{measure, measures, SameBelow}
+use Rattle.problem_core.specs.Measures.{measure, measures}
 use Rattle.problem_core.specs.declared.choice.Choice.{Choice}
 use Rattle.duality.specs.declared.leaf.Node.{Node}
 use Rattle.duality.specs.Packing.{Packing, Weights, Stage, target_of}

@@ -1,6 +1,6 @@
 -- Nodes of a search over the six measures are inside the bounds of a certificate's lines.
-use Rattle.std.proofs.Common.{ℕ, ◌≡◌, ◌<◌, ◌≤◌, ◌^◌, arith, refl, sym, ◌∙◌, ap, zero, suc, Bool, true, false, not, ◌&&◌, ◌||◌, List, [], ◌∷◌, map, length, inl, inr}
-use Rattle.std.specs.Prelude.{ℤ, pos, negsuc, ◌==◌, nat_le, nat_lt, int_le, if◌then◌else◌, None}
+use Rattle.std.proofs.Common.{◌≡◌, ◌≤◌, ◌^◌, arith, refl, sym, ◌∙◌, zero, suc, true, false, not, ◌&&◌, List, [], ◌∷◌, map, length, inl, inr}
+use Rattle.std.specs.Prelude.{ℤ, pos, negsuc, ◌==◌, nat_le, nat_lt, int_le, None}
 use Rattle.std.specs.List.{list_all, list_any, All}
 use Rattle.std.specs.Ordering.{int_eq}
 use Rattle.std.proofs.lemmas.Bool.{and_parts, and_from, cases_Bool, le-leb, ltb-true, not_from_false, or_parts, true≢false}
@@ -13,7 +13,7 @@ use Rattle.duality.specs.declared.row.Term.{Term}
 use Rattle.duality.specs.Packing.{Packing, Weights, Stage, Fixing, is_there, has_sign, is_free}
 use Rattle.duality.specs.Leaf.{closes, term_fits}
 use Rattle.duality.specs.Sums.{is_small, are_small, rises}
-use Rattle.duality.specs.Tree.{can_branch, ends_at}
+use Rattle.duality.specs.Tree.{ends_at}
 use Rattle.duality.specs.After.{after_node, is_right, are_right}
 use Rattle.packing_model.proofs.NodeLemmas.{few_plain_terms}
 use Rattle.search_nodes.specs.Leaves.{IsFineLeaf}

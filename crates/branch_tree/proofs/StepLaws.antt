@@ -1,6 +1,6 @@
 -- The steps of a search keep what holds of the tree, and leave less to do.
-use Rattle.std.proofs.Common.{ℕ, ◌≡◌, ◌<◌, ◌≤◌, ◌+◌, ◌-◌, ◌*◌, ◌^◌, arith, refl, sym, ◌∙◌, ap, subst, zero, suc, Bool, true, false, ◌&&◌, ◌||◌, List, [], ◌∷◌, ◌++◌, length, length-append, take, inl, inr}
-use Rattle.std.specs.Prelude.{ℤ, pos, nat_lt, Option, Some, None}
+use Rattle.std.proofs.Common.{ℕ, ◌≡◌, ◌<◌, ◌≤◌, ◌+◌, ◌^◌, arith, refl, sym, ◌∙◌, ap, subst, zero, suc, true, false, ◌||◌, List, [], ◌∷◌, ◌++◌, length, length-append, take, inl, inr}
+use Rattle.std.specs.Prelude.{ℤ, nat_lt, Option, Some, None}
 use Rattle.std.specs.List.{list_any, All}
 use Rattle.std.proofs.lemmas.Int.{ints}
 use Rattle.std.proofs.lemmas.Bool.{and_parts, and_from, or_from, cases_lt, ltb-true, lt-ltb}
@@ -14,11 +14,11 @@ use Rattle.problem_core.specs.Choice.{IsLegal}
 use Rattle.duality.specs.declared.leaf.Leaf.{Leaf}
 use Rattle.duality.specs.declared.leaf.Node.{Node}
 use Rattle.duality.specs.declared.leaf.Node.TheVariants.{Branch, Leaf as Closing, OpenEnd, Same}
-use Rattle.duality.specs.Packing.{Packing, Weights, Stage, Fixing, is_free}
+use Rattle.duality.specs.Packing.{Packing, Weights, Fixing, is_free}
 use Rattle.duality.specs.Sums.{IsWithin, IsValue}
 use Rattle.duality.specs.Tree.{nothing_fixed, can_branch, ends_at}
 use Rattle.duality.specs.Walk.{Step as PathStep, step_at, fixing_of, pending_of, later, turn, pending}
-use Rattle.duality.specs.Stages.{IsUp, Rises}
+use Rattle.duality.specs.Stages.{IsUp}
 use Rattle.duality.specs.After.{after, are_right, is_open}
 use Rattle.duality.specs.Units.{branch_count}
 use Rattle.duality.proofs.WalkLaws.{later-turn}
@@ -32,7 +32,7 @@ use Rattle.search_nodes.specs.Choices.{IsMore, weighs}
 use Rattle.search_nodes.specs.declared.walk.Walk.{Walk}
 use Rattle.node_bound.specs.Bounds.{has_free}
 use Rattle.branch_tree.specs.Turns.{TurnsTo}
-use Rattle.branch_tree.specs.Growths.{value_of, IsHeldAt, IsFineNode, IsGrown, IsGrowth, value_room, room, Goes, Comes, IsStep}
+use Rattle.branch_tree.specs.Growths.{value_of, IsHeldAt, IsFineNode, IsGrown, IsGrowth, value_room, Goes, Comes, IsStep}
 use Rattle.branch_tree.specs.declared.level.Held.{Held}
 use Rattle.branch_tree.specs.declared.state.Growth.{Growth}
 use Rattle.branch_tree.specs.declared.state.Step.{Step}

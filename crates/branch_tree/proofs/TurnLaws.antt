@@ -1,5 +1,5 @@
 -- Behind a leaf the path is empty exactly where the tree is whole.
-use Rattle.std.proofs.Common.{ℕ, ◌≡◌, ◌+◌, arith, refl, sym, ◌∙◌, ap, suc, List, [], ◌∷◌, length}
+use Rattle.std.proofs.Common.{◌≡◌, ◌+◌, arith, refl, sym, ◌∙◌, ap, List, [], ◌∷◌, length}
 use Rattle.std.specs.Prelude.{Option, Some, None}
 use Rattle.duality.specs.Walk.{Step, step_at}
 use Rattle.search_nodes.specs.Paths.{onto_path, path_of, IsTurned}

@@ -1,5 +1,5 @@
 -- The log of a tree's branches and cuts: each with its cause, in order.
-use Rattle.std.specs.Prelude.{ℕ, ℤ, ◌≡◌, ◌≤◌, ◌<◌, ◌+◌, ◌<ℤ◌, ◌⊎◌, suc, true, Option, Some, None, List, [], ◌∷◌, ◌++◌, map, length, take, slice_index_or}
+use Rattle.std.specs.Prelude.{ℕ, ℤ, ◌≡◌, ◌≤◌, ◌<◌, ◌+◌, ◌<ℤ◌, ◌⊎◌, suc, true, Option, Some, List, [], ◌∷◌, ◌++◌, map, length, take, slice_index_or}
 use Rattle.std.specs.List.{All}
 use Rattle.numbers.specs.Below.{first_from}
 use Rattle.duality.specs.declared.leaf.Node.{Node}

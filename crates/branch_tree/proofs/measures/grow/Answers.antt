@@ -1,4 +1,4 @@
-use Rattle.std.proofs.Common.{refl, sym, ap, ◌∙◌}
+use Rattle.std.proofs.Common.{refl, ap, ◌∙◌}
 use Rattle.problem_core.specs.Facts.{Facts}
 use Rattle.problem_core.specs.Measures.{measures}
 use Rattle.branch_tree.proofs.MeasuredLaws.{grows_at, grows_to, logs_at, logs_to, start_held, start_level, value_read}

@@ -1,21 +1,10 @@
-use Rattle.std.proofs.Common.{◌≡◌, ◌++◌, ◌∙◌, ◌+◌, ℕ, List, [], arith, sym, ap, subst, refl, length, rules, true, false}
-use Rattle.std.specs.Prelude.{Some}
-use Rattle.std.specs.List.{All}
+use Rattle.std.proofs.Common.{[], sym, ap, subst, refl, length}
 use Rattle.std.proofs.lemmas.Result.{IfOk-weaker}
-use Rattle.duality.specs.declared.leaf.Node.{Node}
 use Rattle.duality.specs.Packing.{Weights}
-use Rattle.duality.specs.Walk.{pending_of}
 use Rattle.packing_model.specs.Built.{packing}
 use Rattle.packing_model.specs.Closing.{counted}
-use Rattle.packing_model.specs.Nodes.{stage_at}
-use Rattle.duality.specs.After.{open_ends}
-use Rattle.duality.specs.Units.{branch_count}
-use Rattle.search_nodes.specs.Paths.{path_of}
-use Rattle.branch_tree.specs.Growths.{value_of, IsStep, IsHeldAt, IsFineNode, Goes}
-use Rattle.branch_tree.specs.Trees.{Grows, Ends}
-use Rattle.branch_tree.specs.declared.level.Held.{Held}
-use Rattle.branch_tree.specs.declared.tree.TreeGrown.{TreeGrown}
-use Rattle.branch_tree.proofs.EndLaws.{whole_tree, opened_tree, opened_fine, opened_count, goes_through, goes_none, no_nodes, grows_open}
+use Rattle.branch_tree.specs.Growths.{value_of, IsStep, IsHeldAt, Goes}
+use Rattle.branch_tree.proofs.EndLaws.{whole_tree, goes_through, goes_none, no_nodes, grows_open}
 use Rattle.branch_tree.specs.Logs.{Beginning, moment}
 use Rattle.branch_tree.specs.Logging.{Logs}
 use Rattle.branch_tree.proofs.KeptLaws.{keeps_so_far, keeps_through}

@@ -1,5 +1,4 @@
-use Rattle.std.proofs.Common.{ℕ, ◌≡◌, ◌+◌, ◌≤◌, List, [], length}
-use Rattle.duality.specs.Packing.{Weights}
+use Rattle.std.proofs.Common.{[], length}
 use Rattle.packing_model.specs.Closing.{counted}
 use Rattle.packing_model.specs.Built.{packing}
 use Rattle.branch_tree.specs.Logs.{Beginning, IsLogged, moment}

@@ -1,7 +1,5 @@
-use Rattle.std.proofs.Common.{◌≡◌, ◌++◌, ◌∙◌, ℕ, List, [], arith, sym, ap, ap₂, refl, suc, drop, length, append-nil, drop_of_length-le}
-use Rattle.duality.specs.Walk.{pending_of}
+use Rattle.std.proofs.Common.{◌≡◌, ◌++◌, ◌∙◌, List, [], arith, sym, ap, refl, suc, drop, append-nil, drop_of_length-le}
 use Rattle.duality.specs.After.{open_ends}
-use Rattle.search_nodes.specs.Paths.{path_of}
 use Rattle.search_nodes.specs.declared.walk.Side.{Side}
 use Rattle.branch_tree.specs.Trees.{outside_count}
 use Rattle.branch_tree.proofs.EndLaws.{ends_count, one_end}

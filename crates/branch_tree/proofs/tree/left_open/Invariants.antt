@@ -1,7 +1,5 @@
-use Rattle.std.proofs.Common.{◌≡◌, ◌++◌, suc, drop, length}
-use Rattle.duality.specs.Walk.{pending_of}
+use Rattle.std.proofs.Common.{◌≡◌, ◌++◌, suc, drop}
 use Rattle.duality.specs.After.{open_ends}
-use Rattle.search_nodes.specs.Paths.{path_of}
 use Rattle.branch_tree.specs.Trees.{outside_count}
 use Rattle.branch_tree.proofs.tree.left_open.Given as goal
 

@@ -1,5 +1,4 @@
-use Rattle.std.proofs.Common.{◌≡◌, sym, subst, refl, ap, arith}
-use Rattle.std.specs.Prelude.{Some}
+use Rattle.std.proofs.Common.{subst, refl, ap}
 use Rattle.std.proofs.lemmas.Result.{IfOk-weaker}
 use Rattle.duality.specs.Packing.{Weights, Stage, Fixing}
 use Rattle.duality.specs.Walk.{fixing_of}
@@ -9,7 +8,7 @@ use Rattle.packing_model.specs.Nodes.{stage_at}
 use Rattle.search_nodes.specs.Paths.{path_of}
 use Rattle.search_nodes.specs.Choices.{weighs}
 use Rattle.branch_tree.specs.Logging.{IsBounded}
-use Rattle.branch_tree.specs.Growths.{value_of, IsStep}
+use Rattle.branch_tree.specs.Growths.{value_of}
 use Rattle.branch_tree.specs.declared.level.Held.{Held}
 use Rattle.branch_tree.specs.declared.state.Growth.{Growth}
 use Rattle.branch_tree.proofs.StepLaws.{close_step, better_step}

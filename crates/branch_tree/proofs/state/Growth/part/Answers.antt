@@ -1,15 +1,13 @@
-use Rattle.std.proofs.Common.{◌≡◌, sym, subst, refl, length}
-use Rattle.std.proofs.lemmas.Result.{IfOk-weaker}
+use Rattle.std.proofs.Common.{sym, subst, refl, length}
 use Rattle.duality.specs.Packing.{Weights}
 use Rattle.packing_model.specs.Built.{packing}
 use Rattle.packing_model.specs.Closing.{counted}
-use Rattle.branch_tree.specs.Growths.{value_of, IsStep}
+use Rattle.branch_tree.specs.Growths.{IsStep}
 use Rattle.branch_tree.specs.Logging.{Logs}
 use Rattle.branch_tree.specs.Pools.{FindsCut}
-use Rattle.branch_tree.specs.declared.log.CutNote.{CutNote}
 use Rattle.branch_tree.proofs.StepLaws.{cut_step, few_nodes}
 use Rattle.branch_tree.proofs.LogLaws.{cut_logged}
-use Rattle.branch_tree.proofs.KeptLaws.{keeps_same, keeps_cut, noted_ok}
+use Rattle.branch_tree.proofs.KeptLaws.{keeps_cut, noted_ok}
 use Rattle.branch_tree.proofs.state.Growth.part.Goals as goal
 
 pub found_cut-requires : goal.found_cut-requires

@@ -6,7 +6,7 @@ use Rattle.packing_model.specs.Closing.{counted}
 use Rattle.search_nodes.specs.Paths.{path_of}
 use Rattle.branch_tree.proofs.StepLaws.{branch_step, spent_step, branch_free, few_nodes}
 use Rattle.branch_tree.proofs.LogLaws.{spent_logged, split_logged}
-use Rattle.branch_tree.proofs.KeptLaws.{keeps_same, keeps_unit, keeps_log}
+use Rattle.branch_tree.proofs.KeptLaws.{keeps_unit}
 use Rattle.branch_tree.specs.declared.log.Unit.{Unit as BranchUnit}
 use Rattle.branch_tree.proofs.state.Growth.split.Goals as goal
 

@@ -1,4 +1,4 @@
-use Rattle.std.proofs.Common.{ap, sym, ◌≡◌, ◌∙◌, ℕ, true}
+use Rattle.std.proofs.Common.{ap, sym, ◌∙◌}
 use Rattle.std.proofs.lemmas.Bool.{true≢false}
 use Rattle.numbers.specs.Below.{first_from}
 use Rattle.duality.specs.Packing.{Fixing, is_free}
@@ -6,7 +6,6 @@ use Rattle.duality.specs.Walk.{fixing_of}
 use Rattle.packing_model.specs.Built.{packing}
 use Rattle.search_nodes.specs.Paths.{path_of}
 use Rattle.node_bound.specs.Bounds.{has_free}
-use Rattle.branch_tree.proofs.LogLaws.{lowest_caused}
 use Rattle.branch_tree.proofs.StepLaws.{lowest_branch}
 use Rattle.branch_tree.proofs.state.Growth.split_lowest.Goals as goal
 
