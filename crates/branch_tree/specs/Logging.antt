@@ -7,7 +7,7 @@ use Rattle.packing_model.specs.Nodes.{stage_at}
 use Rattle.exact_num.specs.Arith.{Rose}
 use Rattle.search_nodes.specs.Paths.{path_of}
 use Rattle.node_bound.specs.Bounds.{Bounds, limit_of}
-use Rattle.node_bound.specs.declared.bound.Bounded.{Bounded}
+use Rattle.node_bound.specs.declared.bounded.Bounded.{Bounded}
 use Rattle.branch_tree.specs.Growths.{value_of}
 use Rattle.branch_tree.specs.Logs.{Beginning, IsLogged, IsStopped, moment, moment_after}
 use Rattle.branch_tree.specs.declared.log.Cause.{Cause}

@@ -30,9 +30,8 @@ use Rattle.branch_tree.specs.declared.log.Unit.{Unit as BranchUnit}
 use Rattle.branch_tree.proofs.EndLaws.{up_through}
 use Rattle.branch_tree.proofs.LogLaws.{later_through, passes_last, logged_begins}
 use Rattle.lex_driver.specs.declared.search.Search.{Search}
-use Rattle.lex_driver.specs.declared.search.Stopped.{Stopped}
 use Rattle.lex_driver.specs.Searches.{nodes_at}
-use Rattle.lex_driver.specs.Accounts.{at_level, branch_of, branches_of_trees, value_at, IsUnitOf, IsNoteOf, Accounts, IsOpenAccount, Accounted, AccountsOn}
+use Rattle.lex_driver.specs.Accounts.{at_level, branch_of, branches_of_trees, IsUnitOf, IsNoteOf, Accounts, AccountsOn}
 use Rattle.lex_driver.proofs.LevelLaws.{before_nodes, last_nodes}
 
 -- ---- moments

@@ -1,38 +1,31 @@
 -- The certificate of what a search over the six measures found.
-use Rattle.std.proofs.Common.{ℕ, ◌≡◌, ◌<◌, ◌≤◌, ◌+◌, ◌-◌, ◌*◌, ◌^◌, arith, refl, sym, ◌∙◌, ap, ap₂, subst, zero, suc, Bool, true, false, List, [], ◌∷◌, ◌++◌, length, take, inl, inr}
+use Rattle.std.proofs.Common.{ℕ, ◌≡◌, ◌<◌, ◌≤◌, ◌+◌, ◌-◌, arith, refl, sym, ◌∙◌, ap, ap₂, subst, zero, suc, Bool, true, List, [], ◌∷◌, ◌++◌, length, take, inl, inr}
 use Rattle.std.specs.Prelude.{ℤ, pos, Option, Some, None, if◌then◌else◌, slice_index_or}
-use Rattle.std.specs.List.{list_any, All}
 use Rattle.std.specs.Option.{option_or}
 use Rattle.std.proofs.lemmas.Bool.{cases_Bool, true≢false}
 use Rattle.problem_core.specs.Facts.{Facts}
 use Rattle.problem_core.specs.Choice.{IsLegal}
 use Rattle.problem_core.specs.Measures.{measure, measures, IsBest}
-use Rattle.meeting_patterns.specs.Pattern.{patterns_of}
 use Rattle.duality.specs.declared.leaf.Leaf.{Leaf}
 use Rattle.duality.specs.declared.leaf.Node.{Node}
 use Rattle.duality.specs.declared.leaf.Node.TheVariants.{Branch, Leaf as Closing, OpenEnd, Same}
-use Rattle.duality.specs.Packing.{Packing, Weights, Stage, Fixing}
-use Rattle.duality.specs.Sums.{IsWithin}
-use Rattle.duality.specs.Tree.{nothing_fixed, proves_level}
-use Rattle.duality.specs.After.{after, are_right, is_open}
+use Rattle.duality.specs.Packing.{Packing}
+use Rattle.duality.specs.Tree.{proves_level}
 use Rattle.duality.specs.Units.{branch_count}
-use Rattle.packing_model.specs.Built.{packing, measured, rows_of}
-use Rattle.packing_model.specs.Cuts.{first_clear_of, pair_with, first_apart, IsCutOf, IsPoolOf}
+use Rattle.packing_model.specs.Built.{packing, measured}
+use Rattle.packing_model.specs.Cuts.{first_clear_of, pair_with, first_apart, IsCutOf}
 use Rattle.packing_model.specs.Nodes.{stage_at}
-use Rattle.search_nodes.specs.Choices.{IsHeld, weighs}
+use Rattle.search_nodes.specs.Choices.{weighs}
 use Rattle.cert_text.specs.declared.lines.Tree.{Tree}
 use Rattle.cert_text.specs.declared.lines.Certificate.{Certificate}
-use Rattle.cert_text.specs.Grammar.{tree_of, opening_of, is_writable}
-use Rattle.cert_text.specs.Sharing.{share, plain, shared_nodes, shared_node, shared_leaf, shared_trees, shared_last, lines_with, lines_after, lines_behind, leaf_text, place_of_line}
-use Rattle.cert_checker.specs.Faults.{stage_for, value_at}
+use Rattle.cert_text.specs.Sharing.{share, shared_nodes, shared_leaf, shared_trees, shared_last, lines_with, lines_after, lines_behind, leaf_text, place_of_line}
+use Rattle.cert_checker.specs.Faults.{value_at}
 use Rattle.cert_checker.specs.Verdicts.{IsClique, IsValidPlain, IsValid, tree_at}
 use Rattle.cert_checker.proofs.BestLaws.{measure_at}
 use Rattle.branch_tree.specs.Logs.{Moment, IsStopped, moment, moment_after}
-use Rattle.branch_tree.specs.declared.log.Log.{Log}
-use Rattle.branch_tree.proofs.NodeLaws.{AreFew}
-use Rattle.lex_driver.specs.Searches.{nodes_at, branches_of, AreProved, IsSearch, IsUnfinished, SearchEnds, Searches}
+use Rattle.lex_driver.specs.Searches.{nodes_at, branches_of, AreProved, IsSearch, Searches}
 use Rattle.lex_driver.specs.Accounts.{Accounts, IsOpenAccount, Accounted}
-use Rattle.lex_driver.specs.Solving.{found_of, branches_left, branches_in, IsCertificate, IsAccountOf, IsOptimal, IsOpen, IsSharedOf, IsSolved, IsFoundSearch, Solves}
+use Rattle.lex_driver.specs.Solving.{found_of, branches_left, branches_in, IsCertificate, IsAccountOf, IsSharedOf, IsSolved, IsFoundSearch, Solves}
 use Rattle.lex_driver.specs.declared.solve.Solved.{Solved}
 use Rattle.lex_driver.specs.declared.solve.Solved.TheVariants.{Optimal, Open}
 use Rattle.lex_driver.specs.declared.search.Search.{Search}

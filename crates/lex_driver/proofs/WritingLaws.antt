@@ -1,8 +1,8 @@
 -- What a search found makes a certificate inside the bounds of its lines.
-use Rattle.std.proofs.Common.{ℕ, ◌≡◌, ◌<◌, ◌≤◌, ◌+◌, ◌-◌, ◌^◌, arith, refl, sym, ◌∙◌, ap, subst, zero, suc, Bool, true, false, not, ◌&&◌, ◌||◌, List, [], ◌∷◌, ◌++◌, map, length, take, inl, inr}
-use Rattle.std.specs.Prelude.{ℤ, pos, ◌==◌, nat_le, nat_lt, Option, Some, None, is_some, slice_index, slice_index_or, unsigned_abs}
+use Rattle.std.proofs.Common.{ℕ, ◌≡◌, ◌<◌, ◌≤◌, ◌+◌, ◌^◌, arith, refl, sym, ◌∙◌, ap, subst, suc, Bool, true, false, not, ◌&&◌, List, [], ◌∷◌, ◌++◌, map, length, take, inl, inr}
+use Rattle.std.specs.Prelude.{ℤ, pos, nat_le, nat_lt, Option, Some, None, is_some, slice_index, slice_index_or, unsigned_abs}
 use Rattle.std.specs.List.{list_all, list_any, All}
-use Rattle.std.proofs.lemmas.Bool.{and_parts, and_from, cases_eq, le-leb, lt-ltb, not_from_false, or_from, ltb-true, leb-true, true≢false}
+use Rattle.std.proofs.lemmas.Bool.{and_parts, and_from, cases_eq, le-leb, lt-ltb, not_from_false, ltb-true, true≢false}
 use Rattle.std.proofs.lemmas.List.Folds.{list_all-append}
 use Rattle.std.proofs.lemmas.Int.{ints}
 use Rattle.problem_core.specs.Facts.{Facts}
@@ -12,16 +12,15 @@ use Rattle.duality.specs.declared.leaf.Node.{Node}
 use Rattle.duality.specs.declared.leaf.Node.TheVariants.{Branch, Leaf as Closing, OpenEnd, Same}
 use Rattle.duality.specs.Packing.{Packing, Weights, Stage, Fixing}
 use Rattle.duality.specs.Sums.{IsWithin, is_small}
-use Rattle.duality.specs.Tree.{with_zero, with_one, nothing_fixed, can_branch, ends_at, proves_all, proves_level}
-use Rattle.duality.specs.After.{after_node, after, is_right, are_right, is_open}
-use Rattle.packing_model.specs.Cuts.{IsPoolOf, IsCutOf, IsCutList}
+use Rattle.duality.specs.Tree.{with_zero, with_one, nothing_fixed, can_branch, ends_at, proves_all}
+use Rattle.duality.specs.After.{after, are_right, is_open}
+use Rattle.packing_model.specs.Cuts.{IsCutOf}
 use Rattle.packing_model.specs.Rising.{rises_from, is_rising}
 use Rattle.cert_text.specs.declared.lines.Tree.{Tree}
 use Rattle.cert_text.specs.declared.lines.Certificate.{Certificate}
 use Rattle.cert_text.specs.declared.lines.CertLine.{CertLine}
 use Rattle.cert_text.specs.declared.lines.CertLine.TheVariants as lines
-use Rattle.cert_text.specs.declared.named.Named.{Named}
-use Rattle.cert_text.specs.Grammar.{Opening, opening_of, tree_of, blocks, open_block, lines_of, fills, is_closed_tree, is_open_tree, fits_count, is_shaped, is_named, is_writable}
+use Rattle.cert_text.specs.Grammar.{blocks, open_block, lines_of, fills, is_closed_tree, is_open_tree, fits_count, is_shaped, is_named, is_writable}
 use Rattle.cert_text.specs.Sharing.{none_named, named, all_named}
 use Rattle.cert_text.specs.Spelling.{in_bounds, is_rising as is_rising_line, rises_above}
 use Rattle.branch_tree.specs.Growths.{IsFineNode}

@@ -5,7 +5,7 @@ use Rattle.problem_core.specs.Facts.{Facts}
 use Rattle.problem_core.specs.Choice.{IsLegal}
 use Rattle.meeting_patterns.specs.Pattern.{patterns_of}
 use Rattle.duality.specs.declared.leaf.Node.{Node}
-use Rattle.duality.specs.Packing.{Packing, Weights, Stage}
+use Rattle.duality.specs.Packing.{Weights, Stage}
 use Rattle.duality.specs.Sums.{IsWithin}
 use Rattle.duality.specs.Tree.{proves_level}
 use Rattle.packing_model.specs.Built.{packing}

@@ -1,5 +1,4 @@
 use Rattle.std.proofs.Common.{sym, ap, subst, refl, true, ◌≡◌, ◌∙◌}
-use Rattle.cert_text.specs.declared.lines.Certificate.{Certificate}
 use Rattle.cert_text.specs.Grammar.{is_writable}
 use Rattle.cert_text.specs.Sharing.{share, plain}
 use Rattle.lex_driver.specs.Solving.{found_of}

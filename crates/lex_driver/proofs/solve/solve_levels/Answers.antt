@@ -1,4 +1,3 @@
-use Rattle.std.proofs.Common.{subst, sym, ap}
 use Rattle.std.proofs.lemmas.Result.{IfOk-weaker}
 use Rattle.lex_driver.proofs.SolveLaws.{solves, found_search}
 use Rattle.lex_driver.proofs.solve.solve_levels.Goals as goal
