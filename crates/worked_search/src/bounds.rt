@@ -1,6 +1,7 @@
-ghost use Rattle.std.specs.Prelude.{◌≡◌, ◌<◌, IfOk};
+ghost use Rattle.std.specs.Prelude.{◌≡◌, ◌<◌, ◌≤ℤ◌, ◌^◌, pos, true, IfOk};
+ghost use Rattle.duality.specs.Sums.{rises, are_small, is_small};
 ghost use Rattle.packing_model.specs.Built.{packing};
-ghost use Rattle.packing_model.specs.Cuts.{IsPoolOf};
+ghost use Rattle.packing_model.specs.Cuts.{IsCutOf, IsPoolOf};
 ghost use Rattle.packing_model.specs.Nodes.{IsValidFixing};
 ghost use Rattle.search_nodes.specs.Paths.{IsWalk};
 
@@ -209,24 +210,29 @@ fn fix(model: &Model, walk: &mut Walk, pattern: u32, taken: bool) -> Result<(), 
     Ok(())
 }
 
+/// The cut of three patterns.
+fn cut_of(alloc: Global, model: &Model, patterns: &[u32]) -> Result<Cut, Fail>
+    ensures { IfOk result (IsCutOf (packing model.now)) }
+{
+    let [first, second, third] = patterns else {
+        return Err(Fail::new("not three patterns"));
+    };
+    if *first >= *second || *second >= *third || *third >= model.patterns().len() {
+        return Err(Fail::new("the patterns are not rising"));
+    }
+    Ok(Cut::new(alloc, model, patterns)?)
+}
+
 /// The cut as a pool, where there is one.
 fn pool_of(alloc: Global, model: &Model, cut: &[u32]) -> Result<Pool, Fail>
-    ensures { IfOk result (λ pool. IsPoolOf (packing model.now) pool) }
+    ensures { IfOk result (IsPoolOf (packing model.now)) }
 {
-    let mut pool = Pool::new(alloc);
-    if let [first, second, third] = cut {
-        if *first >= *second || *second >= *third || *third >= model.patterns().len() {
-            return Err(Fail::new("the patterns are not rising"));
-        }
-        match Cut::new(alloc, model, cut) {
-            Ok(cut) => {
-                if pool.add(cut).is_err() {
-                    return Err(Fail::new("the pool is full"));
-                }
-            }
-            Err(_) => return Err(Fail::new("no cut")),
-        }
+    if cut.is_empty() {
+        return Ok(Pool::new(alloc));
     }
+    let cut = cut_of(alloc, model, cut)?;
+    let mut pool = Pool::new(alloc);
+    pool.add(cut)?;
     Ok(pool)
 }
 
@@ -278,13 +284,24 @@ fn closes(model: &Model, pool: &Pool, fixing: &Fixing, node: &Node, leaf: &Leaf)
     requires pool { IsPoolOf (packing model.now) pool.now }
     requires fixing { IsValidFixing (packing model.now) fixing.now }
 {
-    if node.targets.len() > 5 || !are_values(node.targets) || !is_value(node.best) {
-        return false;
-    }
     if leaf.scale < 0 || !is_multiplier(leaf.scale) {
         return false;
     }
     if !are_rising(leaf.terms.as_slice()) || !are_multipliers(leaf.terms.as_slice()) {
+        return false;
+    }
+    closes_at(model, pool, fixing, node, leaf)
+}
+
+fn closes_at(model: &Model, pool: &Pool, fixing: &Fixing, node: &Node, leaf: &Leaf) -> bool
+    requires pool { IsPoolOf (packing model.now) pool.now }
+    requires fixing { IsValidFixing (packing model.now) fixing.now }
+    requires scale { pos 0 ≤ℤ leaf.now.scale }
+    requires small_scale { is_small (10 ^ 24) leaf.now.scale ≡ true }
+    requires rising { rises leaf.now.terms ≡ true }
+    requires small { are_small leaf.now.terms ≡ true }
+{
+    if node.targets.len() > 5 || !are_values(node.targets) || !is_value(node.best) {
         return false;
     }
     let at = At {
@@ -315,53 +332,84 @@ fn is_known(model: &Model, pool: &Pool, fixing: &Fixing, node: &Node, bounded: &
     }
 }
 
+/// What is known at the node by the arithmetic is what the node says.
+fn judge_by<A: Arith>(
+    rt: &impl Abort,
+    alloc: Global,
+    model: &Model,
+    pool: &Pool,
+    fixing: &Fixing,
+    node: &Node,
+    arith: &mut A,
+) -> Result<(), Fail>
+    requires pool { IsPoolOf (packing model.now) pool.now }
+    requires fixing { IsValidFixing (packing model.now) fixing.now }
+{
+    let known = known_at::<A, Brand>(alloc, model, pool, fixing, node, arith, Blank::new(1))?;
+    assert!(rt; is_known(model, pool, fixing, node, &known));
+    Ok(())
+}
+
+/// An arithmetic that refuses all numbers leaves the node undecided at its first number.
+fn judge_refused(
+    rt: &impl Abort,
+    alloc: Global,
+    model: &Model,
+    pool: &Pool,
+    fixing: &Fixing,
+    node: &Node,
+) -> Result<(), Fail>
+    requires pool { IsPoolOf (packing model.now) pool.now }
+    requires fixing { IsValidFixing (packing model.now) fixing.now }
+{
+    let mut arith = Refusing::new();
+    let known = known_at::<Refusing, Brand>(
+        alloc,
+        model,
+        pool,
+        fixing,
+        node,
+        &mut arith,
+        Blank::new(1),
+    )?;
+    assert!(rt; is_first_wide(&known));
+    Ok(())
+}
+
+fn is_first_wide(bounded: &Bounded) -> bool {
+    matches!(
+        bounded,
+        Bounded::Wide {
+            before: 0,
+            after: 1
+        }
+    )
+}
+
+fn judge_fixed(
+    rt: &impl Abort,
+    alloc: Global,
+    model: &Model,
+    fixing: &Fixing,
+    node: &Node,
+) -> Result<(), Fail>
+    requires { IsValidFixing (packing model.now) fixing.now }
+{
+    let pool = pool_of(alloc, model, node.cut)?;
+    judge_by(rt, alloc, model, &pool, fixing, node, &mut Exact128::new())?;
+    judge_by(rt, alloc, model, &pool, fixing, node, &mut Exact64::new())?;
+    judge_refused(rt, alloc, model, &pool, fixing, node)
+}
+
 fn judge_node(rt: &impl Abort, alloc: Global, model: &Model, node: &Node) -> Result<(), Fail> {
     walk_laws();
     let mut walk = Walk::new(alloc);
     fix_each(model, &mut walk, node.left_out, false)?;
     fix_each(model, &mut walk, node.taken, true)?;
-    let pool = pool_of(alloc, model, node.cut)?;
-    let known = known_at::<Exact128, Brand>(
-        alloc,
-        model,
-        &pool,
-        &walk.fixing,
-        node,
-        &mut Exact128::new(),
-        Blank::new(1),
-    )?;
-    assert!(rt; is_known(model, &pool, &walk.fixing, node, &known));
-    let known = known_at::<Exact64, Brand>(
-        alloc,
-        model,
-        &pool,
-        &walk.fixing,
-        node,
-        &mut Exact64::new(),
-        Blank::new(1),
-    )?;
-    assert!(rt; is_known(model, &pool, &walk.fixing, node, &known));
-    let known = known_at::<Refusing, Brand>(
-        alloc,
-        model,
-        &pool,
-        &walk.fixing,
-        node,
-        &mut Refusing::new(),
-        Blank::new(1),
-    )?;
-    assert!(rt;
-        matches!(
-            known,
-            Bounded::Wide {
-                before: 0,
-                after: 1
-            }
-        )
-    );
-    Ok(())
+    judge_fixed(rt, alloc, model, &walk.fixing, node)
 }
 
+/// Builds the model of the shape, and judges the nodes. It alone owns a model.
 fn judge(rt: &impl Abort, alloc: Global, shape: &Shape, nodes: &[Node]) -> Result<(), Fail> {
     let model = model_of(alloc, shape)?;
     judge_nodes(rt, alloc, &model, nodes)
