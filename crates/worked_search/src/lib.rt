@@ -1,5 +1,15 @@
-//! Worked cases of the bounds of nodes: tests alone.
+//! Worked cases of the bounds of nodes, of trees and levels, and of the certificates of a search: tests alone.
 #![tactic(auto)]
 
 #[cfg(test)]
 mod bounds;
+#[cfg(test)]
+mod floors;
+#[cfg(test)]
+mod levels;
+#[cfg(test)]
+mod model;
+#[cfg(test)]
+mod solved;
+#[cfg(test)]
+mod trees;
