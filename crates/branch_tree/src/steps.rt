@@ -73,7 +73,7 @@ impl Growth {
         requires level { IsLevelAt at.now.model.now (counted (O.weight at.now.objective.now) (O.floor at.now.objective.now)) (O.count at.now.objective.now) (O.levels at.now.objective.now) at.now.level at.now.targets.now }
         requires kept { IsGrowth at.now.model.now (counted (O.weight at.now.objective.now) (O.floor at.now.objective.now)) at.now.level at.now.targets.now pool.now self.now }
         ensures bounds { IfOk result (Bounds at.now.model.now (counted (O.weight at.now.objective.now) (O.floor at.now.objective.now)) (stage_at at.now.level at.now.targets.now (value_of self.now.held) pool.now) (fixing_of (path_of self.now.walk.path)) (A.wides arith.old) (A.wides arith.new) steps.old steps.new) }
-        ensures wides { A.wides arith.old ≤ A.wides arith.new }
+        ensures wides { OnOk result (A.wides arith.old ≤ A.wides arith.new) }
         ensures steps { steps.old ≤ steps.new }
     {
         walk_laws();
