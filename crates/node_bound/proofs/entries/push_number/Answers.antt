@@ -3,7 +3,7 @@ use Rattle.std.specs.Int.{w64}
 use Rattle.std.specs.Prelude.{ℤ, ◌==◌}
 use Rattle.numbers.specs.Sums.{picked}
 use Rattle.exact_simplex.specs.Task.{no_row}
-use Rattle.exact_simplex.proofs.InverseLaws.{get_or-any}
+use Rattle.simplex_tableau.proofs.InverseLaws.{get_or-any}
 use Rattle.node_bound.specs.Entries.{Gives, nothing}
 use Rattle.node_bound.proofs.EntryLaws.{gives_one}
 use Rattle.node_bound.proofs.entries.push_number.Goals as goal
