@@ -24,6 +24,12 @@ fn verdict_of_two(
     first: &[u8],
     second: &[u8],
 ) -> Result<Verdict, Memory> {
+    if first.len() > 1_000_000 {
+        return Err(Memory);
+    }
+    if second.len() > 1_000_000 {
+        return Err(Memory);
+    }
     let mut checker = Checker::new(alloc, model);
     checker.feed(first)?;
     checker.feed(second)?;
