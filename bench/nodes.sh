@@ -12,7 +12,7 @@ work=$(mktemp -d)
 trap 'rm -rf "$work"' EXIT
 bench="$work/crates/nodes_bench"
 mkdir -p "$bench/src" "$bench/specs" "$bench/proofs/are_values" "$bench/proofs/time"
-for name in values numbers duality exact_num exact_simplex problem_core meeting_patterns packing_model search_nodes clique_cuts node_bound; do
+for name in values numbers duality exact_num simplex_tableau exact_simplex problem_core meeting_patterns packing_model search_nodes clique_cuts node_bound; do
     mkdir "$work/crates/$name"
     for part in src specs proofs; do
         [ ! -d "$top/crates/$name/$part" ] || cp -r "$top/crates/$name/$part" "$work/crates/$name/"
