@@ -9,7 +9,7 @@ ghost use Rattle.node_bound.specs.Bounds.{has_free};
 use crate::model::{Task, judge};
 use duality::FLOOR_LEVEL;
 use node_bound::{Bounded, close_fixed, close_fixed_at, lowest_free};
-use packing_model::{At, Fixing, Leaf, Model, ObjectiveAt, Pool, RowName};
+use packing_model::{At, Fixing, Leaf, Model, ObjectiveAt, Pool, RowName, is_free};
 use problem_core::Choice;
 use search_nodes::{Walk, walk_laws, weigh_choice};
 use std::alloc::Global;
@@ -139,16 +139,16 @@ fn fix(model: &Model, walk: &mut Walk, pattern: u32, taken: bool) -> Result<(), 
     requires { IsWalk (packing model.now) walk.old }
     ensures { IfOk result (λ _. IsWalk (packing model.now) walk.new) }
 {
+    walk_laws();
     if pattern >= model.patterns().len() {
         return Err(Fail::new("no such pattern"));
     }
-    if !walk.is_free(model, pattern) {
+    if !is_free(model, &walk.fixing, pattern) {
         return Err(Fail::new("the pattern is not free"));
     }
     walk.branch(pattern)?;
     if taken {
         walk.turn()?;
-        walk.mark_rows(model)?;
     }
     Ok(())
 }
