@@ -1,9 +1,0 @@
-mod SolveLaws
-mod ThreeLaws
-mod MeasureLaws
-mod FaultLaws
-mod WordLaws
-mod ExpectedLaws
-mod CheckLaws
-mod CallLaws
-mod ExitLaws

@@ -140,3 +140,9 @@ abbrev pub NoReadOfLoadFailed : {T : Type 0} → ℕ → ℕ → Result T LoadFa
 NoReadOfLoadFailed before now (Ok value) = now ≡ before
 NoReadOfLoadFailed before now (Err (faults.Bad text)) = now ≡ before
 NoReadOfLoadFailed before now (Err fault) = Unit {0}
+
+-- the name of a file: 0 is the instance, 1 the times, any other the measures
+abbrev pub name_of : Names → ℕ → List ℕ
+name_of f 0 = f.instance
+name_of f 1 = f.times
+name_of f file = f.measures
