@@ -17,7 +17,7 @@ use Rattle.run_core.specs.Texts.{read_fault_text}
 use Rattle.run_core.specs.declared.status.ToolStatus.{ToolStatus}
 use Rattle.run_core.specs.declared.status.ToolStatus.TheVariants as statuses
 use Rattle.tool_core.specs.Inputs.{AreGiven, HasModel, AreRefusedForModel}
-use Rattle.tool_core.specs.declared.load.Names.{Names}
+use Rattle.tool_core.specs.declared.inputs.Names.{Names}
 use Rattle.rooms_cmd.specs.Answers.{verified_text, not_verified_text, long_certificate_text}
 use Rattle.rooms_cmd.specs.Unread.{IsUnreadInput}
 use Rattle.rooms_cmd.specs.Solving.{IsNotPut}

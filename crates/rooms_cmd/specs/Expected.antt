@@ -24,7 +24,7 @@ use Rattle.run_core.specs.declared.status.ToolStatus.TheVariants as statuses
 use Rattle.reports.specs.Lines.{value_lines, room_fault_text}
 use Rattle.tool_core.specs.Inputs.{AreGiven, HasProblem, HasModel}
 use Rattle.tool_core.specs.Expected.{of_files, of_model}
-use Rattle.tool_core.specs.declared.load.Names.{Names}
+use Rattle.tool_core.specs.declared.inputs.Names.{Names}
 use Rattle.rooms_cmd.specs.declared.words.Command.{Command}
 use Rattle.rooms_cmd.specs.declared.words.Command.TheVariants.{Solve, Check, Recert, Measure}
 use Rattle.rooms_cmd.specs.Answers.{usage_text, verified_text, not_verified_text, long_certificate_text}

@@ -13,7 +13,7 @@ use Rattle.run_core.specs.declared.status.ToolStatus.{ToolStatus}
 use Rattle.run_core.specs.declared.status.ToolStatus.TheVariants as statuses
 use Rattle.reports.specs.Lines.{value_lines, room_fault_text}
 use Rattle.tool_core.specs.Inputs.{AreGiven, HasProblem, AreRefused}
-use Rattle.tool_core.specs.declared.load.Names.{Names}
+use Rattle.tool_core.specs.declared.inputs.Names.{Names}
 use Rattle.rooms_cmd.specs.Unread.{IsUnreadInput}
 
 -- the rooms given in the times are legal, and their six measures are printed

@@ -8,7 +8,7 @@ use Rattle.run_core.specs.Calls.{Stops}
 use Rattle.run_core.specs.declared.status.ToolStatus.{ToolStatus}
 use Rattle.run_core.specs.declared.status.ToolStatus.TheVariants as statuses
 use Rattle.tool_core.specs.Inputs.{AreRefused, AreRefusedForModel}
-use Rattle.tool_core.specs.declared.load.Names.{Names}
+use Rattle.tool_core.specs.declared.inputs.Names.{Names}
 use Rattle.rooms_cmd.specs.declared.words.Command.{Command}
 use Rattle.rooms_cmd.specs.declared.words.Command.TheVariants.{Solve, Check, Recert, Measure}
 use Rattle.rooms_cmd.specs.Answers.{usage_text}

@@ -13,7 +13,7 @@ use Rattle.run_core.specs.Outside.{Shelved}
 use Rattle.run_core.specs.declared.status.ToolStatus.{ToolStatus}
 use Rattle.run_core.specs.declared.status.ToolStatus.TheVariants as statuses
 use Rattle.tool_core.specs.Inputs.{AreGiven, HasModel, AreRefusedForModel}
-use Rattle.tool_core.specs.declared.load.Names.{Names}
+use Rattle.tool_core.specs.declared.inputs.Names.{Names}
 use Rattle.rooms_cmd.specs.Answers.{answer_text, optimal_line, open_line}
 use Rattle.rooms_cmd.specs.Unread.{IsUnreadInput}
 use Rattle.rooms_cmd.specs.Work.{Work, begins, ends}

@@ -3,7 +3,7 @@ use Rattle.std.specs.Prelude.{ℕ, Bool, true, ◌≤◌, ◌==◌, ◌&&◌, no
 use Rattle.std.specs.Cmp.Lexicographic.{pointwise}
 use Rattle.input_core.specs.Lines.{number_of}
 use Rattle.tool_core.specs.Inputs.{names}
-use Rattle.tool_core.specs.declared.load.Names.{Names}
+use Rattle.tool_core.specs.declared.inputs.Names.{Names}
 use Rattle.rooms_cmd.specs.declared.words.Command.{Command}
 use Rattle.rooms_cmd.specs.declared.words.Command.TheVariants.{Solve, Check, Recert, Measure}
 
