@@ -4,9 +4,9 @@
 mod faults;
 mod limits;
 mod meetings;
-mod values;
+mod six_values;
 
 pub use faults::{long_fault, room_fault};
 pub use limits::over_limit;
 pub use meetings::meeting_lines;
-pub use values::value_lines;
+pub use six_values::value_lines;

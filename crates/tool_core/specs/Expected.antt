@@ -18,7 +18,7 @@ use Rattle.run_core.specs.Expected.{Expected, of_file, of_text}
 use Rattle.run_core.specs.Expected.Expected.{Says}
 use Rattle.run_core.specs.declared.status.ToolStatus.TheVariants.{BadInput}
 use Rattle.reports.specs.Lines.{over_limit_text, long_text}
-use Rattle.tool_core.specs.declared.load.Names.{Names}
+use Rattle.tool_core.specs.declared.inputs.Names.{Names}
 
 abbrev pub times_with : List Meeting → Times
 times_with meetings = record { meetings = meetings }

@@ -16,9 +16,9 @@ use Rattle.packing_model.specs.Built.{model_limit}
 use Rattle.run_core.specs.Outside.{Told}
 use Rattle.run_core.specs.Files.{limit, GivesInstance, GivesTimes, IsFaultyInstance, IsFaultyTimes, IsUnread, IsRefused}
 use Rattle.reports.specs.Lines.{over_limit_text, long_text}
-use Rattle.tool_core.specs.declared.load.Names.{Names}
-use Rattle.tool_core.specs.declared.load.LoadFault.{LoadFault}
-use Rattle.tool_core.specs.declared.load.LoadFault.TheVariants as faults
+use Rattle.tool_core.specs.declared.inputs.Names.{Names}
+use Rattle.tool_core.specs.declared.inputs.LoadFault.{LoadFault}
+use Rattle.tool_core.specs.declared.inputs.LoadFault.TheVariants as faults
 
 abbrev pub names : List ℕ → List ℕ → List ℕ → Names
 names instance times measures = record { instance = instance; times = times; measures = measures }

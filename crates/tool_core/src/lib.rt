@@ -1,8 +1,8 @@
 //! The three input files of a command: their values, their problem and its model, or why there is none.
 #![tactic(auto)]
 
-mod load;
-mod model;
+mod inputs;
+mod loading;
 
-pub use load::{Inputs, LoadFault, Names, load_files};
-pub use model::{Loaded, load};
+pub use inputs::{Inputs, LoadFault, Names, load_files};
+pub use loading::{Loaded, load};

@@ -5,7 +5,7 @@ ghost use Rattle.timed_solution.specs.Times.{AreTimes};
 ghost use Rattle.run_core.specs.Outside.{told};
 ghost use Rattle.tool_core.specs.Inputs.{names, AreGiven, IsModel, AreRefusedForModel, LoadFails, NoReadOfLoadFailed};
 
-use crate::load::{Inputs, LoadFault, load_files};
+use crate::inputs::{Inputs, LoadFault, load_files};
 use ctt_reader::Instance;
 use input_core::Shelf;
 use measure_file::Measures;
