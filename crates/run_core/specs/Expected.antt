@@ -28,6 +28,11 @@ abbrev pub of_text : {X : Type 0} → List ℕ → Result X LineFault → (X →
 of_text name (Err fault) next = Says statuses.BadInput (bad_line_text name fault)
 of_text name (Ok x) next = next x
 
+-- an answer of this text and this status is the expected one
+abbrev pub IsSaid : List ℕ → ToolStatus → Expected → Type 0
+IsSaid text status (Says expected said) = (status ≡ expected) × (text ≡ said)
+IsSaid text status Finds = (status ≡ statuses.Done) ⊎ (status ≡ statuses.Open)
+
 -- the status is the expected one and the sink grew by the expected text; what a search finds is whole or left open
 abbrev pub AnswersAs : Printed → ToolStatus → Expected → Type 0
 AnswersAs p status (Says expected text) = (status ≡ expected) × Grew p.old p.new text

@@ -7,7 +7,10 @@ use Rattle.ctt_reader.specs.declared.instance.Instance.{Instance}
 use Rattle.ctt_reader.specs.Grammar.{ctt_of}
 use Rattle.timed_solution.specs.declared.times.Times.{Times}
 use Rattle.timed_solution.specs.Times.{times_of}
-use Rattle.run_core.specs.Texts.{too_long_text, bad_line_text}
+use Rattle.run_core.specs.Texts.{read_fault_text, too_long_text, bad_line_text}
+use Rattle.run_core.specs.declared.answer.Stop.{Stop}
+use Rattle.run_core.specs.declared.answer.Stop.TheVariants as stops
+use Rattle.run_core.specs.declared.status.ToolStatus.TheVariants as statuses
 use Rattle.run_core.specs.declared.file.FileFault.{FileFault}
 use Rattle.run_core.specs.declared.file.FileFault.TheVariants as faults
 
@@ -70,3 +73,14 @@ abbrev pub IsBadLine : List ℕ → LineFault → FileFault → Type 0
 IsBadLine name fault faults.Read = ⊥
 IsBadLine name fault (faults.Bad text) = text.items ≡ bad_line_text name fault
 IsBadLine name fault faults.Memory = Unit {0}
+
+-- what a program answers of a file that gives no value: that it was not read, or the text that says why it is refused;
+-- where memory runs out, that
+abbrev pub IsStopOf : List ℕ → FileFault → Stop → Type 0
+IsStopOf name faults.Read (stops.Answer a) = (a.status ≡ statuses.ReadFault) × (a.text.items ≡ read_fault_text name)
+IsStopOf name faults.Read stops.NotPut = ⊥
+IsStopOf name faults.Read stops.Memory = Unit {0}
+IsStopOf name (faults.Bad text) (stops.Answer a) = (a.status ≡ statuses.BadInput) × (a.text.items ≡ text.items)
+IsStopOf name (faults.Bad text) stop = ⊥
+IsStopOf name faults.Memory stops.Memory = Unit {0}
+IsStopOf name faults.Memory stop = ⊥

@@ -1,11 +1,14 @@
 ghost use Rattle.std.specs.Prelude.{◌≡◌, IfOk, IfErr};
 ghost use Rattle.input_core.specs.Reading.{IsWhole};
 ghost use Rattle.input_core.specs.Shelf.{OnlyReads};
-ghost use Rattle.run_core.specs.Files.{limit, GivesInstance, GivesTimes, IsFaultyInstance, IsFaultyTimes, NoFault, FileFails, NoReadOfFileFailed, IsBadLine};
+ghost use Rattle.run_core.specs.Files.{limit, GivesInstance, GivesTimes, IsFaultyInstance, IsFaultyTimes, NoFault, FileFails, NoReadOfFileFailed, IsBadLine, IsStopOf};
+ghost use Rattle.run_core.specs.declared.file.FileFault.TheVariants as faults;
 ghost use Rattle.ctt_reader.specs.Promised.{IsInstance};
 ghost use Rattle.timed_solution.specs.Times.{AreTimes};
 
-use crate::texts::{bad_line, too_long};
+use crate::answer::{Answer, Stop};
+use crate::status::ToolStatus;
+use crate::texts::{bad_line, read_fault, too_long};
 use ctt_reader::{Instance, read_ctt};
 use input_core::{INPUT_LIMIT, LineFault, Memory, ReadRefusal, Shelf, TextFault, read_all};
 use std::alloc::{AllocError, Global};
@@ -108,5 +111,33 @@ pub fn faulty(alloc: Global, name: &str, fault: LineFault) -> FileFault
     match bad_line(alloc, name, fault) {
         Ok(text) => FileFault::Bad(text),
         Err(_) => FileFault::Memory,
+    }
+}
+
+/// What a program answers of the file of this name, which gives no value: `ReadFault` where it was not read, and
+/// `BadInput` with the text of the fault. Want of memory, also for the text, is `Memory`.
+pub fn stop_of(alloc: Global, name: &str, fault: FileFault) -> Stop
+    ensures { IsStopOf name.now fault result }
+{
+    match fault {
+        FileFault::Read => unread(alloc, name),
+        FileFault::Bad(text) => Stop::Answer(Answer {
+            status: ToolStatus::BadInput,
+            text,
+        }),
+        FileFault::Memory => Stop::Memory,
+    }
+}
+
+/// What a program answers of the file of this name, which was not read.
+fn unread(alloc: Global, name: &str) -> Stop
+    ensures { IsStopOf name.now faults.Read result }
+{
+    match read_fault(alloc, name) {
+        Ok(text) => Stop::Answer(Answer {
+            status: ToolStatus::ReadFault,
+            text,
+        }),
+        Err(_) => Stop::Memory,
     }
 }

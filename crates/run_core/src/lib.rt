@@ -10,7 +10,7 @@ mod texts;
 
 pub use answer::{Answer, Stop};
 pub use exit::{NoWords, without_name};
-pub use file::{FileFault, faulty, load, load_instance, load_times};
+pub use file::{FileFault, faulty, load, load_instance, load_times, stop_of};
 pub use printing::print;
 pub use status::ToolStatus;
 pub use texts::{bad_line, read_fault, too_long};
