@@ -64,7 +64,11 @@ pub fn push_placed(
 }
 
 /// Adds the course of a meeting, the day and the period.
-pub fn push_timed(text: &mut Vec<u8>, instance: &Instance, meeting: Meeting) -> Result<(), AllocError>
+pub fn push_timed(
+    text: &mut Vec<u8>,
+    instance: &Instance,
+    meeting: Meeting,
+) -> Result<(), AllocError>
     requires { meeting.course < length instance.now.courses }
     ensures { OnOk result (text.new.items ≡ text.old.items ++ timed_words instance.now meeting) }
 {

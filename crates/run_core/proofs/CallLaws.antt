@@ -2,7 +2,7 @@
 use Rattle.std.proofs.Common.{ℕ, ◌≡◌, ◌≤◌, arith, inl, inr, sym, subst, List, [], Bool}
 use Rattle.std.specs.Prelude.{Option, Result, Ok, Err}
 use Rattle.input_core.specs.Causes.{next_count, Rose}
-use Rattle.run_core.specs.Calls.{Stops, NoReadFailed, NoReadOfStepFailed, NoWriteFailed, WritesOnce, WritesOnceOrPuts}
+use Rattle.run_core.specs.Calls.{Stops, NoReadFailed, NoReadOfStepFailed, NoWriteFailed, WritesOnce}
 use Rattle.run_core.specs.Ends.{PrintEnds}
 use Rattle.run_core.specs.Files.{IsUnread}
 use Rattle.run_core.specs.Outside.{Printed}
@@ -40,17 +40,6 @@ writes_once before now BadInput e = e
 writes_once before now ReadFault e = e
 writes_once before now WriteFault e = e
 writes_once before now Memory e = inl e
-
--- what writes once does so too where it could have put a file
-pub writes_once_or_puts : (before now : ℕ) (status : ToolStatus) → WritesOnce before now status → WritesOnceOrPuts before now status
-writes_once_or_puts before now Done h = h
-writes_once_or_puts before now No h = h
-writes_once_or_puts before now Usage h = h
-writes_once_or_puts before now Open h = h
-writes_once_or_puts before now BadInput h = h
-writes_once_or_puts before now ReadFault h = h
-writes_once_or_puts before now WriteFault h = inl h
-writes_once_or_puts before now Memory h = h
 
 -- a step that reads nothing
 pub reads_nothing : {T : Type 0} (before now : ℕ) (r : Result T Stop) → now ≡ before → NoReadOfStepFailed before now r

@@ -1,5 +1,5 @@
 -- How a run ends, from what is said of each status, and from how its text was printed.
-use Rattle.std.proofs.Common.{ℕ, ◌≡◌, refl, sym, ap, subst, inl, inr, List, [], ◌++◌}
+use Rattle.std.proofs.Common.{ℕ, ◌≡◌, refl, sym, subst, inl, inr, List, []}
 use Rattle.std.specs.Prelude.{Option, Some, None, Result, Ok, IfOk, ◌⊎◌}
 use Rattle.std.proofs.lemmas.List.{append-nil}
 use Rattle.run_core.specs.Outside.{Printed}

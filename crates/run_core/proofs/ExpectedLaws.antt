@@ -1,11 +1,11 @@
 -- What a run in which no call fails answers of a file, and of its whole.
-use Rattle.std.proofs.Common.{ℕ, ◌≡◌, inl, inr, ◌≤◌, refl, sym, ◌∙◌, ap, subst, List, [], length, Bool}
+use Rattle.std.proofs.Common.{ℕ, ◌≡◌, inl, inr, refl, sym, ◌∙◌, ap, subst, List, [], length, Bool}
 use Rattle.std.specs.Prelude.{Option, Some, None, Result, Ok, Err, IsTrue}
 use Rattle.std.proofs.lemmas.Bool.{le-ltb, lt-ltb}
 use Rattle.input_core.specs.Causes.{Rose}
 use Rattle.input_core.specs.Reading.{IsWhole}
 use Rattle.input_core.specs.declared.faults.LineFault.{LineFault}
-use Rattle.run_core.specs.Texts.{read_fault_text, too_long_text, bad_line_text}
+use Rattle.run_core.specs.Texts.{read_fault_text, too_long_text}
 use Rattle.run_core.specs.Files.{limit, IsUnread, IsLong, IsRefused}
 use Rattle.run_core.specs.Outside.{Shelved, Printed, IsQuiet}
 use Rattle.run_core.specs.Ends.{Prints, Grew, RunEnds}

@@ -1,18 +1,16 @@
 -- From a file that gives no value to what stops a command; and what a file gives, over what the shelf told before.
 use Rattle.std.proofs.Common.{ℕ, ◌≡◌, ◌≤◌, sym, subst, List, Bool}
-use Rattle.std.specs.Prelude.{Option, Result, Ok, Err}
+use Rattle.std.specs.Prelude.{Option, Err}
 use Rattle.input_core.specs.declared.faults.LineFault.{LineFault}
-use Rattle.ctt_reader.specs.declared.instance.Instance.{Instance}
-use Rattle.timed_solution.specs.declared.times.Times.{Times}
 use Rattle.run_core.specs.Texts.{read_fault_text}
 use Rattle.run_core.specs.Calls.{Stops, NoReadFailed, NoReadOfStepFailed}
-use Rattle.run_core.specs.Files.{GivesInstance, GivesTimes, IsFaultyInstance, IsFaultyTimes, IsUnread, IsRefused, FileFails, NoReadOfFileFailed, IsStopOf}
+use Rattle.run_core.specs.Files.{IsUnread, IsRefused, FileFails, NoReadOfFileFailed, IsStopOf}
 use Rattle.run_core.specs.declared.answer.Stop.{Stop}
 use Rattle.run_core.specs.declared.answer.Stop.TheVariants as stops
 use Rattle.run_core.specs.declared.file.FileFault.{FileFault}
 use Rattle.run_core.specs.declared.file.FileFault.TheVariants as faults
 use Rattle.run_core.specs.declared.status.ToolStatus.{ToolStatus}
-use Rattle.run_core.specs.declared.status.ToolStatus.TheVariants.{BadInput, ReadFault, WriteFault, Memory}
+use Rattle.run_core.specs.declared.status.ToolStatus.TheVariants.{BadInput, ReadFault}
 use Rattle.run_core.proofs.CallLaws.{unread_earlier}
 
 -- a file that is not read or refused stops a command, where that is explained

@@ -35,9 +35,3 @@ NoWriteFailed before now status = now ≡ before
 abbrev pub WritesOnce : ℕ → ℕ → ToolStatus → Type 0
 WritesOnce before now statuses.Memory = (now ≡ next_count before) ⊎ (now ≡ before)
 WritesOnce before now status = now ≡ next_count before
-
--- the same of a run that puts a file: where that fails, `write` is not called
-abbrev pub WritesOnceOrPuts : ℕ → ℕ → ToolStatus → Type 0
-WritesOnceOrPuts before now statuses.WriteFault = (now ≡ next_count before) ⊎ (now ≡ before)
-WritesOnceOrPuts before now statuses.Memory = (now ≡ next_count before) ⊎ (now ≡ before)
-WritesOnceOrPuts before now status = now ≡ next_count before

@@ -40,4 +40,3 @@ pub fn bad_line(alloc: Global, name: &str, fault: LineFault) -> Result<Vec<u8>, 
     text.extend_from_slice(b"\n")?;
     Ok(text)
 }
-
