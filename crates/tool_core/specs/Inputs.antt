@@ -1,5 +1,5 @@
 -- What the three input files give, and why they give nothing.
-use Rattle.std.specs.Prelude.{ℕ, ◌≡◌, ◌⊎◌, List, Bool, Option, Some, None, Result, Ok, Err}
+use Rattle.std.specs.Prelude.{ℕ, zero, suc, ◌≡◌, ◌⊎◌, List, Bool, Option, Some, None, Result, Ok, Err}
 use Rattle.input_core.specs.Reading.{IsWhole}
 use Rattle.input_core.specs.declared.faults.LineFault.{LineFault}
 use Rattle.problem_core.specs.declared.limit.Limit.{Limit}
@@ -15,6 +15,12 @@ use Rattle.room_model.specs.declared.long.LongFault.{LongFault}
 use Rattle.packing_model.specs.Built.{model_limit}
 use Rattle.run_core.specs.Outside.{Told}
 use Rattle.run_core.specs.Files.{limit, GivesInstance, GivesTimes, IsFaultyInstance, IsFaultyTimes, IsUnread, IsRefused}
+use Rattle.run_core.specs.Texts.{read_fault_text}
+use Rattle.run_core.specs.declared.file.FileFault.{FileFault}
+use Rattle.run_core.specs.declared.file.FileFault.TheVariants as files
+use Rattle.run_core.specs.declared.answer.Stop.{Stop}
+use Rattle.run_core.specs.declared.answer.Stop.TheVariants as stops
+use Rattle.run_core.specs.declared.status.ToolStatus.TheVariants as statuses
 use Rattle.reports.specs.Lines.{over_limit_text, long_text}
 use Rattle.tool_core.specs.declared.inputs.Names.{Names}
 use Rattle.tool_core.specs.declared.inputs.LoadFault.{LoadFault}
@@ -124,10 +130,10 @@ pub record IsUnreadMeasures (o : Told) (f : Names) (before now : ℕ) : Type 0 w
 
 -- the first file that isn't read: 0 is the instance, 1 the times, 2 the measures
 abbrev pub IsUnreadFile : Told → Names → ℕ → ℕ → ℕ → Type 0
-IsUnreadFile o f before now 0 = IsUnread o.tells (o.held f.instance) before now
-IsUnreadFile o f before now 1 = IsUnreadTimes o f before now
-IsUnreadFile o f before now 2 = IsUnreadMeasures o f before now
-IsUnreadFile o f before now file = ⊥
+IsUnreadFile o f before now zero = IsUnread o.tells (o.held f.instance) before now
+IsUnreadFile o f before now (suc zero) = IsUnreadTimes o f before now
+IsUnreadFile o f before now (suc (suc zero)) = IsUnreadMeasures o f before now
+IsUnreadFile o f before now (suc (suc (suc file))) = ⊥
 
 -- why a load gives nothing, where a text is that of a refusal
 abbrev pub LoadFails : Told → Names → ℕ → ℕ → (List ℕ → Type 0) → LoadFault → Type 0
@@ -143,6 +149,35 @@ NoReadOfLoadFailed before now (Err fault) = Unit {0}
 
 -- the name of a file: 0 is the instance, 1 the times, any other the measures
 abbrev pub name_of : Names → ℕ → List ℕ
-name_of f 0 = f.instance
-name_of f 1 = f.times
-name_of f file = f.measures
+name_of f zero = f.instance
+name_of f (suc zero) = f.times
+name_of f (suc (suc file)) = f.measures
+
+-- the fault of the file of this number
+abbrev pub fault_in : ℕ → FileFault → LoadFault
+fault_in file files.Read = faults.Read file
+fault_in file (files.Bad text) = faults.Bad text
+fault_in file files.Memory = faults.Memory
+
+-- why the values of the files give no problem
+abbrev pub ProblemFails : Instance → Times → Measures → LoadFault → Type 0
+ProblemFails i t m (faults.Read file) = ⊥
+ProblemFails i t m (faults.Bad text) = IsNoProblem i t m text.items
+ProblemFails i t m faults.Memory = Unit {0}
+
+-- why a problem has no model
+abbrev pub ModelFails : Facts → LoadFault → Type 0
+ModelFails p (faults.Read file) = ⊥
+ModelFails p (faults.Bad text) = (over : Limit) × (model_limit p ≡ Some over) × (text.items ≡ over_limit_text over)
+ModelFails p faults.Memory = Unit {0}
+
+-- what a program answers of files that give nothing: which was not read, or the text that says why they are refused;
+-- where memory runs out, that
+abbrev pub IsStopOfLoad : Names → LoadFault → Stop → Type 0
+IsStopOfLoad f (faults.Read file) (stops.Answer a) = (a.status ≡ statuses.ReadFault) × (a.text.items ≡ read_fault_text (name_of f file))
+IsStopOfLoad f (faults.Read file) stops.NotPut = ⊥
+IsStopOfLoad f (faults.Read file) stops.Memory = Unit {0}
+IsStopOfLoad f (faults.Bad text) (stops.Answer a) = (a.status ≡ statuses.BadInput) × (a.text.items ≡ text.items)
+IsStopOfLoad f (faults.Bad text) stop = ⊥
+IsStopOfLoad f faults.Memory stops.Memory = Unit {0}
+IsStopOfLoad f faults.Memory stop = ⊥

@@ -4,5 +4,5 @@
 mod inputs;
 mod loading;
 
-pub use inputs::{Inputs, LoadFault, Names, load_files};
+pub use inputs::{Inputs, LoadFault, Names, load_files, stop_of};
 pub use loading::{Loaded, load};

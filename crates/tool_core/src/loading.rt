@@ -1,15 +1,18 @@
-ghost use Rattle.std.specs.Prelude.{IfOk, IfErr};
+ghost use Rattle.std.specs.Prelude.{◌≡◌, None, IfOk, IfErr};
+ghost use Rattle.packing_model.specs.Built.{model_limit};
 ghost use Rattle.input_core.specs.Shelf.{OnlyReads};
 ghost use Rattle.ctt_reader.specs.Promised.{IsInstance};
 ghost use Rattle.timed_solution.specs.Times.{AreTimes};
 ghost use Rattle.run_core.specs.Outside.{told};
-ghost use Rattle.tool_core.specs.Inputs.{names, AreGiven, IsModel, AreRefusedForModel, LoadFails, NoReadOfLoadFailed};
+ghost use Rattle.tool_core.specs.Inputs.{names, AreGiven, IsModel, AreRefusedForModel, LoadFails, NoReadOfLoadFailed, ModelFails};
 
 use crate::inputs::{Inputs, LoadFault, load_files};
 use ctt_reader::Instance;
 use input_core::Shelf;
 use measure_file::Measures;
 use packing_model::Model;
+use problem_core::{BuildFault, Problem};
+use reports::over_limit;
 use std::alloc::Global;
 use timed_solution::Times;
 
@@ -39,5 +42,38 @@ pub fn load<S: Shelf>(
     ensures calls { NoReadOfLoadFailed (S.piece_faults shelf.old) (S.piece_faults shelf.new) result }
     ensures only { OnlyReads S.tells S.held S.piece_faults S.put_faults shelf.old shelf.new }
 {
-    Err(LoadFault::Memory)
+    let inputs = load_files(alloc, shelf, instance, times, measures)?;
+    with_model(alloc, inputs)
+}
+
+/// The values, and the model of their problem.
+fn with_model(alloc: Global, inputs: Inputs) -> Result<Loaded, LoadFault>
+    ensures instance { IfOk result (λ l. l.instance ≡ inputs.instance) }
+    ensures times { IfOk result (λ l. l.times ≡ inputs.times) }
+    ensures measures { IfOk result (λ l. l.measures ≡ inputs.measures) }
+    ensures model { IfOk result (λ l. (l.model ≡ inputs.problem) × (model_limit inputs.problem ≡ None)) }
+    ensures fails { IfErr result (ModelFails inputs.problem) }
+{
+    let model = build_model(alloc, inputs.problem)?;
+    Ok(Loaded {
+        instance: inputs.instance,
+        times: inputs.times,
+        measures: inputs.measures,
+        model,
+    })
+}
+
+/// The model of a problem.
+fn build_model(alloc: Global, problem: Problem) -> Result<Model, LoadFault>
+    ensures same { IfOk result (λ m. m ≡ problem) }
+    ensures few { IfOk result (λ m. model_limit problem ≡ None) }
+    ensures fails { IfErr result (ModelFails problem) }
+{
+    match Model::build(alloc, problem) {
+        Ok(model) => Ok(model),
+        Err(BuildFault::Limit(limit)) => Err(LoadFault::Bad {
+            text: over_limit(alloc, limit)?,
+        }),
+        Err(BuildFault::Memory) => Err(LoadFault::Memory),
+    }
 }
