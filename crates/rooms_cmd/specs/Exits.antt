@@ -1,5 +1,5 @@
 -- The exit status of the program.
-use Rattle.std.specs.Prelude.{ℕ, ◌≡◌, List, Option}
+use Rattle.std.specs.Prelude.{ℕ, ◌≡◌, Option}
 use Rattle.run_core.specs.Numbers.{number_of}
 use Rattle.run_core.specs.Outside.{Shelved, Printed}
 use Rattle.run_core.specs.Calls.{NoReadFailed, NoWriteFailed}

@@ -1,5 +1,5 @@
 -- What a run in which no call fails answers, from the command and from what the names hold.
-use Rattle.std.specs.Prelude.{ℕ, ◌≡◌, ◌≤◌, ◌*◌, ◌-◌, ◌^◌, List, length, Option, Some, None, nat_lt, if◌then◌else◌}
+use Rattle.std.specs.Prelude.{ℕ, ◌≤◌, ◌*◌, ◌-◌, ◌^◌, List, length, Option, Some, None, nat_lt, if◌then◌else◌}
 use Rattle.input_core.specs.Reading.{IsWhole}
 use Rattle.problem_core.specs.Facts.{Facts}
 use Rattle.problem_core.specs.Choice.{IsLegal}

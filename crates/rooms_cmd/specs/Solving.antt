@@ -49,7 +49,7 @@ pub record IsLeftOpen (s : Shelved) (w : Work) (f : Names) (name : List ℕ) (bu
   pub level : ℕ
   pub certificate : Certificate
   pub log : Log
-  pub open : IsOpen (problem_of i t m) budget level certificate log (begins w) (ends w (length certificate.cuts))
+  pub is_open : IsOpen (problem_of i t m) budget level certificate log (begins w) (ends w (length certificate.cuts))
   pub held : HoldsCertificate s name certificate
   pub is : text ≡ answer_text (open_line level) i t certificate
 

@@ -16,6 +16,8 @@ use crate::recert::recert;
 use crate::solve::solve;
 use crate::texts::usage;
 use crate::words::{Command, read_command};
+use cert_checker::certificate_laws;
+use cert_text::text_laws;
 use exact_num::{Arith, Steps};
 use input_core::{Shelf, Sink};
 use run_core::{Answer, Stop, ToolStatus as Status, print};
@@ -63,6 +65,8 @@ pub fn run<S: Shelf, O: Sink, A: Arith, L: Ledger>(
     ensures no_write_failed { NoWriteFailed (O.faults out.old) (O.faults out.new) result }
     ensures one_write { WritesOnce (O.calls out.old) (O.calls out.new) result }
 {
+    text_laws();
+    certificate_laws();
     respond(alloc, words, shelf, out, arith, steps)
 }
 
