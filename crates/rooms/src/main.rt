@@ -1,16 +1,38 @@
-//! The program `rooms`: gives the meetings of a timetable rooms.
+//! The program `rooms`: gives the meetings of a timetable rooms, and checks that no choice of rooms is better.
 #![tactic(auto)]
 
+ghost use Rattle.std.specs.Prelude.{◌≡◌, ◌<◌};
+
+use exact_num::{Exact128, Steps};
 use input_core::{FileShelf, OutSink};
 use rooms_cmd::{NoWords, exit_status};
 use std::env;
+use std::marker::Brand;
 use std::process::ExitCode;
+use std::sync::ledger::{Blank, Ledger};
 
 fn main(rt: HostRuntime) -> ExitCode {
-    let mut shelf = FileShelf::new(&rt);
-    let mut out = OutSink::new(&rt);
-    let status = exit_status(rt.alloc(), arguments(&rt), &mut shelf, &mut out);
-    ExitCode::from(status)
+    ExitCode::from(number::<Brand>(&rt, Blank::new(1)))
+}
+
+/// The exit status. The steps of the search are counted in a ledger that nothing was written in.
+fn number<L: Ledger>(rt: &HostRuntime, blank: Blank) -> u8
+    requires name { blank.name ≡ L.name }
+    requires parts { blank.parts ≡ L.parts }
+    requires some { 0 < blank.parts }
+{
+    let mut shelf = FileShelf::new(rt);
+    let mut out = OutSink::new(rt);
+    let mut arith = Exact128::new();
+    let mut steps: Steps<L> = Steps::new(blank);
+    exit_status(
+        rt.alloc(),
+        arguments(rt),
+        &mut shelf,
+        &mut out,
+        &mut arith,
+        &mut steps,
+    )
 }
 
 /// The arguments of the program, of which the first is its name.

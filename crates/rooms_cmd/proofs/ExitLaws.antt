@@ -1,32 +1,12 @@
--- How a run ends, from what is said of each status.
-use Rattle.std.proofs.Common.{ℕ, ◌≡◌, refl, sym, subst, List, Bool, []}
-use Rattle.std.specs.Prelude.{Option, Result, Ok, IfOk}
-use Rattle.rooms_cmd.specs.Run.{Held}
-use Rattle.rooms_cmd.specs.Ends.{Explains, Prints, Grew, IsWriteFault, RunEnds}
-use Rattle.rooms_cmd.specs.declared.status.Status.{Status}
-use Rattle.rooms_cmd.specs.declared.status.Status.TheVariants.{Done, No, Usage, BadInput, ReadFault, WriteFault, Memory, Unplaced}
+-- The exit status of a run, over the words that it was given.
+use Rattle.std.proofs.Common.{ℕ, ◌≡◌, subst, List}
+use Rattle.std.specs.Prelude.{String}
+use Rattle.std.specs.declared.alloc.Global.{Global}
+use Rattle.run_core.specs.Expected.{words_of}
+use Rattle.run_core.specs.Outside.{Shelved, Printed}
+use Rattle.rooms_cmd.specs.Words.{command}
+use Rattle.rooms_cmd.specs.Work.{Work}
+use Rattle.rooms_cmd.specs.Exits.{IsExit}
 
--- the text of the answer with this status was printed
-abbrev pub PrintsAs : Bool → Held → List (List ℕ) → ℕ → ℕ → Option (List ℕ) → Option (List ℕ) → Status → Status → Type 0
-PrintsAs tells held words before now old new result status = result ≡ status → Prints old new (λ text. Explains tells held words before now text status)
-
-pub run_ends : (tells : Bool) (held : Held) (words : List (List ℕ)) (before now faults faults' : ℕ) (old new : Option (List ℕ)) (result : Status)
-    → PrintsAs tells held words before now old new result Done → PrintsAs tells held words before now old new result No → PrintsAs tells held words before now old new result Unplaced
-    → PrintsAs tells held words before now old new result Usage → PrintsAs tells held words before now old new result BadInput → PrintsAs tells held words before now old new result ReadFault
-    → (result ≡ WriteFault → IsWriteFault tells held words before now faults faults' old new) → (result ≡ Memory → Grew old new [])
-    → RunEnds tells held words before now faults faults' old new result
-run_ends tells held words before now faults faults' old new Done done negative unplaced usage bad read write memory = done refl
-run_ends tells held words before now faults faults' old new No done negative unplaced usage bad read write memory = negative refl
-run_ends tells held words before now faults faults' old new Unplaced done negative unplaced usage bad read write memory = unplaced refl
-run_ends tells held words before now faults faults' old new Usage done negative unplaced usage bad read write memory = usage refl
-run_ends tells held words before now faults faults' old new BadInput done negative unplaced usage bad read write memory = bad refl
-run_ends tells held words before now faults faults' old new ReadFault done negative unplaced usage bad read write memory = read refl
-run_ends tells held words before now faults faults' old new WriteFault done negative unplaced usage bad read write memory = write refl
-run_ends tells held words before now faults faults' old new Memory done negative unplaced usage bad read write memory = memory refl
-
-pub ends_of : (tells : Bool) (held : Held) (given words : List (List ℕ)) (before now faults faults' : ℕ) (old new : Option (List ℕ)) (result : Status)
-    → given ≡ words → RunEnds tells held given before now faults faults' old new result → RunEnds tells held words before now faults faults' old new result
-ends_of tells held given words before now faults faults' old new result e h = subst (λ w. RunEnds tells held w before now faults faults' old new result) e h
-
-pub if_ok : {T E : Type 0} (r : Result T E) (x : T) (P : T → Type 0) → r ≡ Ok x → P x → IfOk r P
-if_ok r x P e h = subst (λ s. IfOk s P) (sym e) h
+pub exit_of : (s : Shelved) (p : Printed) (w : Work) (given words : List (String Global)) (number : ℕ) → given ≡ words → IsExit s p w (command (words_of given)) number → IsExit s p w (command (words_of words)) number
+exit_of s p w given words number same h = subst (λ ws. IsExit s p w (command (words_of ws)) number) same h

@@ -1,9 +1,5 @@
-mod SolveLaws
-mod ThreeLaws
-mod MeasureLaws
-mod FaultLaws
-mod WordLaws
-mod ExpectedLaws
-mod CheckLaws
-mod CallLaws
-mod ExitLaws
+pub mod ExitLaws
+pub mod ExpectedLaws
+pub mod QuietLaws
+pub mod RunLaws
+pub mod SameLaws

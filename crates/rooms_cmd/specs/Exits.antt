@@ -1,23 +1,21 @@
 -- The exit status of the program.
-use Rattle.std.specs.Prelude.{ℕ, ◌≡◌, List, Bool, Option}
-use Rattle.rooms_cmd.specs.Numbers.{number_of}
-use Rattle.rooms_cmd.specs.Run.{Held}
-use Rattle.rooms_cmd.specs.Ends.{RunEnds}
-use Rattle.rooms_cmd.specs.Calls.{NoReadFailed, NoWriteFailed, WritesOnce}
-use Rattle.rooms_cmd.specs.declared.status.Status.{Status}
-use Rattle.rooms_cmd.specs.declared.exit.NoWords.{NoWords}
-use Rattle.rooms_cmd.specs.declared.exit.NoWords.TheVariants as no_words
+use Rattle.std.specs.Prelude.{ℕ, ◌≡◌, Option}
+use Rattle.run_core.specs.Numbers.{number_of}
+use Rattle.run_core.specs.Outside.{Shelved, Printed}
+use Rattle.run_core.specs.Calls.{NoReadFailed, NoWriteFailed}
+use Rattle.run_core.specs.Ends.{RunEnds}
+use Rattle.run_core.specs.declared.status.ToolStatus.{ToolStatus}
+use Rattle.rooms_cmd.specs.declared.words.Command.{Command}
+use Rattle.rooms_cmd.specs.Work.{Work}
+use Rattle.rooms_cmd.specs.Run.{Explains, Keeps, KeepsInputs, WritesOnce}
 
--- the exit status of a program that has no words
-abbrev pub number_without : NoWords → ℕ
-number_without no_words.NotTexts = 9
-number_without no_words.Memory = 7
-
--- the number is that of a status with which a run of the words ends so
-pub record IsExit (tells : Bool) (held : Held) (words : List (List ℕ)) (before now faults faults' calls calls' : ℕ) (old new : Option (List ℕ)) (number : ℕ) : Type 0 where
-  pub status : Status
+-- the number is that of a status with which a run of the command ends so
+pub record IsExit (s : Shelved) (p : Printed) (w : Work) (command : Option Command) (number : ℕ) : Type 0 where
+  pub status : ToolStatus
   pub is : number ≡ number_of status
-  pub ends : RunEnds tells held words before now faults faults' old new status
-  pub reads : NoReadFailed before now status
-  pub writes : NoWriteFailed faults faults' status
-  pub once : WritesOnce calls calls' status
+  pub ends : RunEnds p (Explains s w command) status
+  pub kept : Keeps s command
+  pub inputs : KeepsInputs s command
+  pub reads : NoReadFailed s.reads.before s.reads.now status
+  pub writes : NoWriteFailed p.faults.before p.faults.now status
+  pub once : WritesOnce p.calls.before p.calls.now status

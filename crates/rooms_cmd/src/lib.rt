@@ -1,17 +1,16 @@
 //! The commands of the program: from words and files to a status and a printed text.
 #![tactic(auto)]
 
-mod answer;
 mod check;
 mod command;
 mod exit;
-mod inputs;
 mod measure;
+mod recert;
 mod solve;
-mod status;
 mod texts;
-mod value_lines;
+mod words;
 
 pub use command::run;
-pub use exit::{NoWords, exit_status};
-pub use status::Status;
+pub use exit::exit_status;
+pub use run_core::{NoWords, ToolStatus as Status};
+pub use words::{Command, read_command};

@@ -1,106 +1,34 @@
-ghost use Rattle.std.specs.Prelude.{◌≡◌, None, IfOk, IfErr};
-ghost use Rattle.input_core.specs.Shelf.{OnlyReads};
-ghost use Rattle.measure_file.specs.Grammar.{no_measures};
-ghost use Rattle.rooms_cmd.specs.Plain.{plain_problem};
-ghost use Rattle.problem_core.specs.Limits.{limit_of};
-ghost use Rattle.ctt_reader.specs.Promised.{IsInstance};
-ghost use Rattle.rooms_cmd.specs.Run.{SolveExplains, Stops, PlaceExplains, ProblemStops, IsProblem};
-ghost use Rattle.rooms_cmd.specs.Calls.{NoReadOfStepFailed};
-ghost use Rattle.timed_solution.specs.Times.{AreTimes};
+ghost use Rattle.std.specs.Prelude.{◌≤◌};
+ghost use Rattle.run_core.specs.Calls.{NoReadFailed};
+ghost use Rattle.run_core.specs.Outside.{shelved, KeepsBut};
+ghost use Rattle.rooms_cmd.specs.Run.{AnswerIs, StatusIs, KeepsWhereRefused, NoPutFailed};
+ghost use Rattle.rooms_cmd.specs.Solving.{SolveExplains};
+ghost use Rattle.rooms_cmd.specs.Work.{work};
 
-use crate::answer::{Answer, Stop};
-use crate::inputs::{load_instance, load_problem, load_times};
-use crate::status::Status;
-use crate::texts::{count_unplaced, placed, unplaced};
-use ctt_reader::Instance;
+use exact_num::{Arith, Steps};
 use input_core::Shelf;
-use measure_file::Measures;
-use problem_core::{Problem, first_choice, first_choice_laws};
+use run_core::{Answer, Stop};
 use std::alloc::Global;
-use timed_solution::Times;
-use values::Items;
+use std::sync::ledger::Ledger;
+use tool_core::Names;
 
-/// Gives each meeting of the two files a room, by the first choice.
-pub fn solve<S: Shelf>(
+/// Finds the best rooms in the six measures, puts the certificate under its name, and answers with the values and the
+/// rooms.
+pub fn solve<S: Shelf, A: Arith, L: Ledger>(
     alloc: Global,
+    names: &Names,
+    certificate: &str,
+    budget: u64,
     shelf: &mut S,
-    instance_name: &str,
-    times_name: &str,
+    arith: &mut A,
+    steps: &mut Steps<L>,
 ) -> Result<Answer, Stop>
-    ensures answers { IfOk result (λ a. SolveExplains (S.tells shelf.old) (S.held shelf.old) instance_name.now times_name.now (S.piece_faults shelf.old) (S.piece_faults shelf.new) a.text.items a.status) }
-    ensures stops { IfErr result (Stops (SolveExplains (S.tells shelf.old) (S.held shelf.old) instance_name.now times_name.now (S.piece_faults shelf.old) (S.piece_faults shelf.new))) }
-    ensures calls { NoReadOfStepFailed (S.piece_faults shelf.old) (S.piece_faults shelf.new) result }
-    ensures only { OnlyReads S.tells S.held S.piece_faults S.put_faults shelf.old shelf.new }
+    requires { budget ≤ 1000000 }
+    ensures answers { AnswerIs (SolveExplains (shelved S.tells S.held S.piece_faults S.put_faults shelf.old shelf.new) (work A.wides arith.old arith.new steps.old steps.new) names.now certificate.now budget) result }
+    ensures keeps { KeepsBut certificate.now (shelved S.tells S.held S.piece_faults S.put_faults shelf.old shelf.new) }
+    ensures refused { StatusIs (KeepsWhereRefused (shelved S.tells S.held S.piece_faults S.put_faults shelf.old shelf.new)) result }
+    ensures reads { StatusIs (NoReadFailed (S.piece_faults shelf.old) (S.piece_faults shelf.new)) result }
+    ensures puts { StatusIs (NoPutFailed (S.put_faults shelf.old) (S.put_faults shelf.new)) result }
 {
-    let instance = load_instance(alloc, shelf, instance_name)?;
-    let times = load_times(alloc, shelf, &instance, times_name)?;
-    solve_loaded(alloc, &instance, &times)
-}
-
-/// The answer of the first choice for the instance and its times without measures, or the limit that their problem
-/// passes.
-fn solve_loaded(alloc: Global, instance: &Instance, times: &Times) -> Result<Answer, Stop>
-    requires instance { IsInstance instance.now }
-    requires times { AreTimes instance.now times.now.meetings }
-    ensures few { IfOk result (λ a. limit_of (plain_problem instance.now times.now) ≡ None) }
-    ensures answers { IfOk result (λ a. PlaceExplains instance.now times.now a.text.items a.status) }
-    ensures stops { IfErr result (Stops (ProblemStops instance.now times.now no_measures)) }
-{
-    let problem = plain_problem(alloc, instance, times)?;
-    place(alloc, instance, times, &problem)
-}
-
-/// The problem of the instance and its times without measures.
-fn plain_problem(alloc: Global, instance: &Instance, times: &Times) -> Result<Problem, Stop>
-    requires instance { IsInstance instance.now }
-    requires times { AreTimes instance.now times.now.meetings }
-    ensures problem { IfOk result (IsProblem instance.now times.now no_measures) }
-    ensures stops { IfErr result (Stops (ProblemStops instance.now times.now no_measures)) }
-{
-    let measures = no_measures(alloc);
-    load_problem(alloc, instance, times, &measures)
-}
-
-/// What a file without fields lists.
-fn no_measures(alloc: Global) -> Measures
-    ensures { result ≡ no_measures }
-{
-    Measures {
-        features: Items::new(alloc),
-        has: Items::new(alloc),
-        needs: Items::new(alloc),
-        denied: Items::new(alloc),
-        closed: Items::new(alloc),
-        prefer: Items::new(alloc),
-        robust: Items::new(alloc),
-        lengths: Items::new(alloc),
-    }
-}
-
-/// The answer of the first choice.
-fn place(
-    alloc: Global,
-    instance: &Instance,
-    times: &Times,
-    problem: &Problem,
-) -> Result<Answer, Stop>
-    requires times { AreTimes instance.now times.now.meetings }
-    requires same { problem.now ≡ plain_problem instance.now times.now }
-    ensures answers { IfOk result (λ a. PlaceExplains instance.now times.now a.text.items a.status) }
-    ensures stops { IfErr result (Stops (λ text status. ⊥)) }
-{
-    let choice = first_choice(alloc, problem)?;
-    let entries = choice.entries.as_slice();
-    let without_room = count_unplaced(entries);
-    if without_room > 0 {
-        return Ok(Answer {
-            status: Status::Unplaced,
-            text: unplaced(alloc, without_room)?,
-        });
-    }
-    first_choice_laws();
-    Ok(Answer {
-        status: Status::Done,
-        text: placed(alloc, instance, problem, times.meetings.as_slice(), &choice)?,
-    })
+    Err(Stop::Memory)
 }

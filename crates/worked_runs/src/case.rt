@@ -1,9 +1,18 @@
 use std::alloc::{AllocError, Global};
 
-/// The words of the program, and which calls fail.
+/// The arithmetic of a run: numbers of 128 bits, of 64 bits, or none.
+#[derive(Clone, Copy)]
+pub enum Numbers {
+    Wide,
+    Narrow,
+    None,
+}
+
+/// The words of the program, over which arithmetic, and which calls fail.
 #[derive(Drop)]
 pub struct Case {
     pub words: Vec<String>,
+    pub numbers: Numbers,
     pub failing: Vec<u64>,
     pub sink_failing: Vec<(u64, usize)>,
 }
@@ -12,6 +21,7 @@ pub struct Case {
 pub fn case_of(alloc: Global, words: &str) -> Result<Case, AllocError> {
     let mut case = Case {
         words: Vec::new(alloc),
+        numbers: Numbers::Wide,
         failing: Vec::new(alloc),
         sink_failing: Vec::new(alloc),
     };
@@ -30,8 +40,11 @@ fn take_word(alloc: Global, word: &str, case: &mut Case) -> Result<(), AllocErro
         case.sink_failing.push(call)?;
         return Ok(());
     }
-    let word = String::from_str(alloc, word)?;
-    case.words.push(word)?;
+    match word {
+        "~64" => case.numbers = Numbers::Narrow,
+        "~none" => case.numbers = Numbers::None,
+        _ => case.words.push(String::from_str(alloc, word)?)?,
+    }
     Ok(())
 }
 

@@ -1,26 +1,33 @@
 //! Worked cases of the commands: runs each line of the file `cases` over the files beside it, and prints the line,
 //! a status, and the bytes that came. Empty lines and those that begin with `#` are skipped. The others are:
 //!
-//! - `rooms WORD ..`: the words of the program `rooms`. A word `!N` makes the Nth call of the shelf fail, and a
-//!   word `N:M` the Nth call of the sink, after M bytes.
+//! - `rooms WORD ..`: the words of the program `rooms`. A word `!N` makes the Nth call of the shelf fail, a word
+//!   `N:M` the Nth call of the sink, after M bytes; `~64` runs over fractions of 64 bits, `~none` over none.
+//! - `rooms WORD .. ; WORD ..`: the same, and then further words over the same shelf, each with its own status and
+//!   bytes. Words `show NAME` give what a name holds. Of the failing calls of the shelf those of the first count.
 //! - `rooms WORD .. @ FILE FIRST LAST|LINE|LINE ..`: the same, where FILE has these lines in place of those from
 //!   FIRST to LAST.
 //! - `put FILE TEXT`: makes a real file hold the text, and reads it.
 //! - `piece FILE AT`: at most eight bytes of a real file, from a place on.
 #![tactic(auto)]
 
+ghost use Rattle.std.specs.Prelude.{◌≡◌, ◌<◌};
+
 mod case;
 mod change;
 mod stop;
 
-use crate::case::{Case, case_of};
+use crate::case::{Case, Numbers, case_of};
 use crate::change::{Change, change_of, changed};
 use crate::stop::Stop;
+use exact_num::{Arith, Exact64, Exact128, Refusing, Steps};
 use input_core::{FileShelf, INPUT_LIMIT, MemShelf, MemSink, OutSink, Shelf, Sink, read_all};
 use rooms_cmd::{Status, run};
 use std::alloc::{AllocError, Global};
+use std::marker::Brand;
 use std::process::ExitCode;
 use std::rt::Files;
+use std::sync::ledger::{Blank, Ledger};
 
 /// The files that the words name, so far as there are such, with the change.
 fn files_of<R: Files>(
@@ -61,22 +68,71 @@ fn run_rooms<R: Files + Print>(
     words: &str,
     change: Option<Change>,
 ) -> Result<(), Stop> {
-    let case = case_of(alloc, words)?;
-    let files = files_of(alloc, rt, case.words.as_slice(), change)?;
-    run_case(alloc, rt, line, case, files)
+    let first = case_of(alloc, words.split(';').next().unwrap_or(""))?;
+    let named = case_of(alloc, words)?;
+    let files = files_of(alloc, rt, named.words.as_slice(), change)?;
+    let mut shelf = MemShelf::new(alloc, files, first.failing);
+    print_line(alloc, rt, line)?;
+    for part in words.split(';') {
+        run_part(alloc, rt, part, &mut shelf)?;
+    }
+    Ok(())
 }
 
-fn run_case<R: Print>(
+/// Runs the words of one command, or shows what a name holds.
+fn run_part<R: Print>(
     alloc: Global,
     rt: &R,
-    line: &str,
-    case: Case,
-    files: Vec<(String, Vec<u8>)>,
+    words: &str,
+    shelf: &mut MemShelf,
 ) -> Result<(), Stop> {
-    let mut shelf = MemShelf::new(alloc, files, case.failing);
+    if let Some(name) = words.trim_ascii().strip_prefix("show ") {
+        return show(alloc, rt, name, shelf);
+    }
+    let case = case_of(alloc, words)?;
     let mut sink = MemSink::new(alloc, case.sink_failing);
-    let status = run(alloc, case.words.as_slice(), &mut shelf, &mut sink);
-    print(alloc, rt, line, status, sink.bytes())
+    let words = case.words.as_slice();
+    let status = match case.numbers {
+        Numbers::Wide => over::<Exact128>(alloc, words, shelf, &mut sink, &mut Exact128::new()),
+        Numbers::Narrow => over::<Exact64>(alloc, words, shelf, &mut sink, &mut Exact64::new()),
+        Numbers::None => over::<Refusing>(alloc, words, shelf, &mut sink, &mut Refusing::new()),
+    };
+    print_answer(alloc, rt, status, sink.bytes())
+}
+
+/// Runs the words over an arithmetic.
+fn over<A: Arith>(
+    alloc: Global,
+    words: &[String],
+    shelf: &mut MemShelf,
+    sink: &mut MemSink,
+    arith: &mut A,
+) -> Status {
+    counted::<A, Brand>(alloc, words, shelf, sink, arith, Blank::new(1))
+}
+
+fn counted<A: Arith, L: Ledger>(
+    alloc: Global,
+    words: &[String],
+    shelf: &mut MemShelf,
+    sink: &mut MemSink,
+    arith: &mut A,
+    blank: Blank,
+) -> Status
+    requires name { blank.name ≡ L.name }
+    requires parts { blank.parts ≡ L.parts }
+    requires some { 0 < blank.parts }
+{
+    let mut steps: Steps<L> = Steps::new(blank);
+    run(alloc, words, shelf, sink, arith, &mut steps)
+}
+
+/// Shows what a name holds.
+fn show<R: Print>(alloc: Global, rt: &R, name: &str, shelf: &mut MemShelf) -> Result<(), Stop> {
+    match read_all(alloc, shelf, name, INPUT_LIMIT) {
+        Ok(bytes) => print_answer(alloc, rt, Status::Done, bytes.as_slice()),
+        Err(_) => print_answer(alloc, rt, Status::ReadFault, b""),
+    }
 }
 
 /// Puts the text, and reads the name.
@@ -121,8 +177,26 @@ fn print<R: Print>(
     status: Status,
     bytes: &[u8],
 ) -> Result<(), Stop> {
+    print_line(alloc, rt, line)?;
+    print_answer(alloc, rt, status, bytes)
+}
+
+/// Prints the line of a case.
+fn print_line<R: Print>(alloc: Global, rt: &R, line: &str) -> Result<(), Stop> {
+    let head = format!(in alloc; "== {line}\n")?;
+    OutSink::new(rt).write(head.as_bytes())?;
+    Ok(())
+}
+
+/// Prints the number of a status, and the bytes that came.
+fn print_answer<R: Print>(
+    alloc: Global,
+    rt: &R,
+    status: Status,
+    bytes: &[u8],
+) -> Result<(), Stop> {
     let number = status.number();
-    let head = format!(in alloc; "== {line}\n{number}\n")?;
+    let head = format!(in alloc; "{number}\n")?;
     let mut out = OutSink::new(rt);
     out.write(head.as_bytes())?;
     out.write(bytes)?;

@@ -1,0 +1,9 @@
+pub mod Numbers
+pub mod Texts
+pub mod Files
+pub mod Calls
+pub mod Outside
+pub mod Ends
+pub mod Causes
+pub mod Exits
+pub mod Expected

@@ -1,0 +1,4 @@
+pub mod FaultLaws
+pub mod LoadLaws
+pub mod StopLaws
+pub mod ExpectedLaws
