@@ -2,6 +2,7 @@ pub mod NumberLaws
 pub mod SpellingLaws
 pub mod GrammarLaws
 pub mod TextLaws
+pub mod LengthLaws
 pub mod ReadLaws
 pub mod TakeLaws
 pub mod WriteLaws

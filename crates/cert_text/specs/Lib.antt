@@ -7,3 +7,4 @@ pub mod Places
 pub mod Reading
 pub mod Adding
 pub mod Writing
+pub mod Kept
