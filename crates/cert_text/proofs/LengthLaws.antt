@@ -4,7 +4,7 @@ use Rattle.std.specs.Prelude.{nat_le, ◌==◌, Option, Some, None, ℤ, pos, ne
 use Rattle.std.specs.List.{list_all}
 use Rattle.std.specs.Fmt.{decimal, signed_decimal}
 use Rattle.std.proofs.lemmas.Bool.{and_parts, and_from, not-true, le-leb, leb-true, eqb-true, cases_lt, true≢false}
-use Rattle.std.proofs.lemmas.List.{take_all}
+use Rattle.std.proofs.lemmas.List.{take_all, take-append-le}
 use Rattle.std.proofs.lemmas.Fmt.{length-decimal-le_wide}
 use Rattle.duality.specs.declared.row.RowName.{RowName}
 use Rattle.duality.specs.declared.row.RowName.TheVariants.{Base, Cut as CutRow, Level as LevelRow}
@@ -137,12 +137,15 @@ long_stops s line long = ap (λ o. opt_then o (steps s)) (long_line line long)
 kept_whole : (line kept : List ℕ) → IsKept line kept → length line ≤ 165201 → kept ≡ line
 kept_whole line kept is few = is.front ∙ take_all (length kept) line (omega (arith, is.size))
 
--- what is kept of a line is taken as the line
-pub kept_takes : (s : Standing) (line kept : List ℕ) → IsKept line kept → takes s kept ≡ takes s line
-kept_takes s line kept is = elim (cases_lt 165200 (length line)) [
-  | inl long ↦ long_stops s kept (omega (arith, is.size, long)) ∙ sym (long_stops s line long)
-  | inr short ↦ ap (takes s) (kept_whole line kept is (omega (arith, short)))
+-- what is kept of a line is read as the line
+pub kept_line : (line kept : List ℕ) → IsKept line kept → line_of kept ≡ line_of line
+kept_line line kept is = elim (cases_lt 165200 (length line)) [
+  | inl long ↦ long_line kept (omega (arith, is.size, long)) ∙ sym (long_line line long)
+  | inr short ↦ ap line_of (kept_whole line kept is (omega (arith, short)))
 ]
+
+pub kept_takes : (s : Standing) (line kept : List ℕ) → IsKept line kept → takes s kept ≡ takes s line
+kept_takes s line kept is = ap (λ o. opt_then o (steps s)) (kept_line line kept is)
 
 cut_behind : (line more f : List ℕ) (fs : List (List ℕ)) → lacks 10 line ≡ true → cut 10 more ≡ f ∷ fs → cut 10 (line ++ more) ≡ (line ++ f) ∷ fs
 cut_behind [] more f fs h e = e
@@ -181,3 +184,28 @@ kept_reads s n rest kept more is lack = elim (cases_lt 165200 (length rest)) [
   | inl long ↦ long_first s n kept more (kept_lacks rest kept is lack) (omega (arith, is.size, long)) ∙ sym (long_first s n rest more lack long)
   | inr short ↦ ap (λ x. read_from s n (whole_lines (x ++ more)) (rest_of (x ++ more))) (kept_whole rest kept is (omega (arith, short)))
 ]
+
+-- bytes behind what is kept are read as behind the line
+pub kept_more : (line kept more : List ℕ) → IsKept line kept → line_of (kept ++ more) ≡ line_of (line ++ more)
+kept_more line kept more is = elim (cases_lt 165200 (length line)) [
+  | inl long ↦ long_line (kept ++ more) (omega (arith, is.size, long, length-append kept more)) ∙ sym (long_line (line ++ more) (omega (arith, long, length-append line more)))
+  | inr short ↦ ap (λ x. line_of (x ++ more)) (kept_whole line kept is (omega (arith, short)))
+]
+
+-- what is kept of what is kept
+pub kept_then : (line kept more last : List ℕ) → IsKept line kept → IsKept (kept ++ more) last → IsKept (line ++ more) last
+kept_then line kept more last is next = elim (cases_lt 165201 (length line)) [
+  | inr short ↦ subst (λ x. IsKept (x ++ more) last) (kept_whole line kept is (omega (arith, short))) next
+  | inl long ↦
+      let full : length kept ≡ 165201 = omega (arith, is.size, long) in
+      let size : length last ≡ 165201 = omega (arith, next.size, full, length-append kept more) in
+      record {
+        front =
+            next.front ∙ take-append-le (length last) kept more (omega (arith, size, full)) ∙ take_all (length last) kept (omega (arith, size, full))
+            ∙ is.front ∙ ap (λ n. take n line) (omega (arith, full, size)) ∙ sym (take-append-le (length last) line more (omega (arith, size, long)));
+        size = omega (arith, size, long, length-append line more);
+      }
+]
+
+pub kept_none : IsKept [] []
+kept_none = record { front = refl; size = omega arith }

@@ -11,3 +11,5 @@ pub mod TreeLaws
 pub mod LineLemmas
 pub mod ShareLaws
 pub mod PlainLaws
+pub mod PieceLaws
+pub mod SoundLaws

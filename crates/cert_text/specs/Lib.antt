@@ -8,3 +8,4 @@ pub mod Reading
 pub mod Adding
 pub mod Writing
 pub mod Kept
+pub mod Pieces

@@ -3,6 +3,7 @@
 #![tactic(auto)]
 
 mod bounds;
+mod cert_reader;
 mod fields;
 mod forms;
 mod laws;
@@ -13,10 +14,12 @@ mod line_rest;
 mod lines;
 mod named;
 mod number;
+mod pieces;
 mod place;
 mod reader;
 mod writer;
 
+pub use cert_reader::CertReader;
 pub use duality::Node;
 pub use forms::{plain, share};
 pub use input_core::Memory;
