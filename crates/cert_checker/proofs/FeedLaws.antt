@@ -7,6 +7,8 @@ use Rattle.std.proofs.lemmas.List.Folds.{list_all-append}
 use Rattle.problem_core.specs.Facts.{Facts}
 use Rattle.cert_text.specs.Numbers.{lacks, cut}
 use Rattle.cert_text.specs.Text.{fed, Standing, begun, pieces_before, last_of, whole_lines, rest_of, takes, read_from, read_end, certificate_of}
+use Rattle.cert_text.specs.Kept.{IsKept}
+use Rattle.cert_text.proofs.LengthLaws.{kept_lacks, kept_reads}
 use Rattle.cert_text.proofs.NumberLaws.{cut-whole}
 use Rattle.cert_text.proofs.TextLaws.{next_whole, bytes_split, whole_lack, cut_lacks}
 use Rattle.cert_checker.specs.declared.reading.Reading.{Reading}
@@ -84,15 +86,20 @@ fed_stops f r new rest line after bytes ok going inside takes_it stops = go (tak
         ∙ sym (going.read (line ++ (10 ∷ (after ++ more)))) ∙ read_whole rest line (after ++ more) going.standing r.progress.line going.inside inside
         ∙ ap (λ o. elim o [ None ↦ Err r.progress.line | Some u ↦ read_from u (r.progress.line + 1) (whole_lines (after ++ more)) (rest_of (after ++ more)) ]) e
 
--- bytes that end no line
-pub fed_rest : (f : Facts) (r : Reading) (rest left bytes : List ℕ) → IsGoing f r rest bytes → lacks 10 left ≡ true → IsGoing f r (rest ++ left) (bytes ++ left)
-fed_rest f r rest left bytes going inside = record {
-  standing = going.standing;
-  at = going.at;
-  inside = lacks-both rest left going.inside inside;
-  read = λ more.
-      ap (λ b. read_from going.standing r.progress.line (whole_lines b) (rest_of b)) (append_assoc rest left more) ∙ going.read (left ++ more) ∙ ap certificate_of (sym (append_assoc bytes left more));
-}
+-- bytes that end no line, of which as much is kept as tells how the line is read
+pub fed_rest : (f : Facts) (r : Reading) (rest left kept bytes : List ℕ) → IsGoing f r rest bytes → lacks 10 left ≡ true → IsKept (rest ++ left) kept → IsGoing f r kept (bytes ++ left)
+fed_rest f r rest left kept bytes going inside is =
+    let s = going.standing in
+    let n = r.progress.line in
+    let lack = lacks-both rest left going.inside inside in
+    record {
+      standing = s;
+      at = going.at;
+      inside = kept_lacks (rest ++ left) kept is lack;
+      read = λ more.
+          kept_reads s n (rest ++ left) kept more is lack
+          ∙ ap (λ b. read_from s n (whole_lines b) (rest_of b)) (append_assoc rest left more) ∙ going.read (left ++ more) ∙ ap certificate_of (sym (append_assoc bytes left more));
+    }
 
 pub fed_begins : (f : Facts) (r : Reading) → IsAt f r begun → r.progress.line ≡ 1 → IsGoing f r [] []
 fed_begins f r at line = record { standing = begun; at = at; inside = refl; read = λ more. ap (λ n. read_from begun n (whole_lines more) (rest_of more)) line }

@@ -24,7 +24,7 @@ IsFedAt f (Some n) r rest bytes = IsStopped n bytes
 
 -- what is kept stands for the bytes
 abbrev pub IsFed : Facts → Feeding → List ℕ → Type 0
-IsFed f x bytes = IsFedAt f x.faulty x.reading x.rest.items bytes
+IsFed f x bytes = IsFedAt f x.faulty x.reading x.rest bytes
 
 -- while no line was faulty, the reading is sound
 abbrev pub IsSoundFed : Facts → Feeding → Type 0

@@ -3,3 +3,4 @@ pub mod Verdicts
 pub mod Trees
 pub mod Progresses
 pub mod Feeding
+pub mod Files

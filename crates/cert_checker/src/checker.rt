@@ -5,6 +5,7 @@ ghost use Rattle.cert_checker.specs.Feeding.{StandsFor};
 
 use crate::feeding::Feeding;
 use crate::verdict::Verdict;
+use input_core::Taker;
 use packing_model::Model;
 use problem_core::Memory;
 use std::alloc::Global;
@@ -81,5 +82,29 @@ impl<'a> Checker<'a> {
             return Err(Memory);
         }
         Ok(self.feeding.finish())
+    }
+}
+
+impl<'a> Taker for Checker<'a> {
+    ghost use Rattle.problem_core.specs.Facts.{Facts};
+    ghost use Rattle.cert_checker.specs.Feeding.{StandsFor};
+
+    ghost Kept = { Facts };
+
+    ghost stands = { λ c bytes. StandsFor c bytes };
+
+    ghost bytes_taken = { λ c. c.taken };
+
+    ghost kept = { λ c. c.facts };
+
+    fn taken(&self) -> u64 {
+        self.taken
+    }
+
+    fn take(&mut self, piece: &[u8]) -> Result<(), input_core::Memory> {
+        match self.feed(piece) {
+            Ok(()) => Ok(()),
+            Err(_) => Err(input_core::Memory),
+        }
     }
 }

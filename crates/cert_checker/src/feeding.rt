@@ -7,17 +7,17 @@ ghost use Rattle.cert_checker.specs.Feeding.{IsFed, IsSoundFed};
 
 use crate::reading::Reading;
 use crate::verdict::{Reason, Verdict};
-use cert_text::next_line;
+use cert_text::{LineRest, next_line};
 use packing_model::Model;
 use problem_core::Memory;
 use std::alloc::Global;
 
-/// What is kept between two pieces of a certificate: what was read of its whole lines, the rest of a line,
-/// and the number of the first faulty line, behind which nothing is read.
+/// What is kept between two pieces of a certificate: what was read of its whole lines, what is kept of the
+/// rest of a line, and the number of the first faulty line, behind which nothing is read.
 #[derive(Drop)]
 pub struct Feeding {
     pub reading: Reading,
-    pub rest: Vec<u8>,
+    pub rest: LineRest,
     pub faulty: Option<u64>,
 }
 
@@ -30,7 +30,7 @@ impl Feeding {
     {
         Feeding {
             reading: Reading::new(alloc),
-            rest: Vec::new(alloc),
+            rest: LineRest::new(alloc),
             faulty: None,
         }
     }
@@ -56,7 +56,7 @@ impl Feeding {
             }
             left = after;
         }
-        self.rest.extend_from_slice(left)?;
+        self.rest.add(left)?;
         Ok(())
     }
 
@@ -64,13 +64,13 @@ impl Feeding {
     fn take_line(&mut self, alloc: Global, m: &Model, line: &[u8]) -> Result<bool, Memory>
         requires sound { IsSound m.now self.old.reading }
         requires few { self.old.reading.progress.line < 2 ^ 63 }
-        ensures at { IfOk result (λ ok. (t : Standing) → IsAt m.now self.old.reading t → TakesLine m.now (takes t (self.old.rest.items ++ line.now)) self.new.reading ok) }
+        ensures at { IfOk result (λ ok. (t : Standing) → IsAt m.now self.old.reading t → TakesLine m.now (takes t (self.old.rest ++ line.now)) self.new.reading ok) }
         ensures sound { IfOk result (λ ok. ok ≡ true → IsSound m.now self.new.reading) }
         ensures line { IfOk result (λ ok. ok ≡ true → self.new.reading.progress.line ≡ self.old.reading.progress.line + 1) }
-        ensures rest { OnOk result (self.new.rest.items ≡ []) }
+        ensures rest { OnOk result (self.new.rest ≡ []) }
         ensures faulty { OnOk result (self.new.faulty ≡ self.old.faulty) }
     {
-        self.rest.extend_from_slice(line)?;
+        self.rest.add(line)?;
         let ok = self.reading.take_bytes(alloc, m, self.rest.as_slice())?;
         self.rest.clear();
         Ok(ok)

@@ -12,7 +12,7 @@ mod tree;
 mod verdict;
 
 pub use checker::Checker;
-pub use judge::check;
+pub use judge::{check, check_file};
 pub use laws::certificate_laws;
 pub use search_nodes::Walk;
 pub use tree::TreeAt;

@@ -2,6 +2,7 @@ pub mod NumberLaws
 pub mod SpellingLaws
 pub mod GrammarLaws
 pub mod TextLaws
+pub mod LengthLaws
 pub mod ReadLaws
 pub mod TakeLaws
 pub mod WriteLaws
@@ -10,3 +11,5 @@ pub mod TreeLaws
 pub mod LineLemmas
 pub mod ShareLaws
 pub mod PlainLaws
+pub mod PieceLaws
+pub mod SoundLaws

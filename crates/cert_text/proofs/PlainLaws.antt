@@ -1,10 +1,10 @@
 -- What the lines of a certificate mean are the lines of its plain form.
-use Rattle.std.proofs.Common.{ℕ, ◌≡◌, ◌<◌, arith, refl, sym, ◌∙◌, ap, Bool, true, cond, not, List, [], ◌∷◌, ◌++◌, append_assoc, map, length, ◌+◌, inl, inr, zero, suc, false}
+use Rattle.std.proofs.Common.{ℕ, ◌≡◌, ◌<◌, arith, refl, sym, ◌∙◌, ap, Bool, true, cond, List, [], ◌∷◌, ◌++◌, append_assoc, map, length, ◌+◌, inl, inr, zero, suc, false}
 use Rattle.std.specs.Prelude.{◌==◌, nat_lt, Option, Some, None, is_some, slice_get}
 use Rattle.std.specs.Option.{unwrap_or}
 use Rattle.std.specs.List.{list_all}
 use Rattle.std.proofs.lemmas.Bool.{and_parts, and_from, true≢false, ltb-true}
-use Rattle.std.proofs.lemmas.Option.{same_Some, none-some, cond_some, slice_get-map, slice_get_within}
+use Rattle.std.proofs.lemmas.Option.{same_Some, none-some, cond_some, slice_get-map}
 use Rattle.std.proofs.lemmas.List.{map-append, length-map}
 use Rattle.std.proofs.lemmas.List.Folds.{list_all-append}
 use Rattle.duality.specs.declared.leaf.Leaf.{Leaf}
@@ -17,10 +17,10 @@ use Rattle.cert_text.specs.declared.lines.CertLine.TheVariants.{Head, Sizes, Cho
 use Rattle.cert_text.specs.declared.named.Named.{Named}
 use Rattle.cert_text.specs.Spelling.{in_bounds, line_of, leaf_in_bounds}
 use Rattle.cert_text.specs.Grammar.{lines_of, blocks, open_block, is_shaped, is_writable}
-use Rattle.cert_text.specs.Sharing.{leaf_text, has_line, none_named, named, names, names_then, all_named, leaf_in, leaf_node, named_node, meant_node, meant, is_plain, named_behind, plain_lines, is_leaf_line, are_leaf_lines, plain_node, plain_same, leaves_with, leaves_after, plain_nodes, leaves_behind, plain_trees, plain_last, plain}
+use Rattle.cert_text.specs.Sharing.{leaf_text, has_line, none_named, named, all_named, leaf_in, leaf_node, named_node, meant_node, meant, is_plain, named_behind, plain_lines, is_leaf_line, are_leaf_lines, plain_node, plain_same, leaves_after, plain_nodes, leaves_behind, plain_trees, plain_last}
 use Rattle.cert_text.proofs.SpellingLaws.{line_of-reads, line_of-is}
 use Rattle.cert_text.proofs.TextLaws.{writable_is}
-use Rattle.cert_text.proofs.ShareLaws.{One, one_is, none_last, last_named, plain_same_trees, plain_same_last, PlainTrees, plain_trees_right, one_or_two, names_of, bounds_are, blocks_bounded, open_bounded, at_bounds, named_two, no_names, none_in, nodes_named, trees_named, nodes_bounded, trees_bounded, last_bounded, plain_right, plain_shaped, plain_count, then_is, some_at}
+use Rattle.cert_text.proofs.ShareLaws.{one_is, none_last, last_named, plain_same_trees, plain_same_last, plain_trees_right, one_or_two, names_of, bounds_are, blocks_bounded, open_bounded, at_bounds, named_two, no_names, none_in, nodes_named, trees_named, nodes_bounded, trees_bounded, last_bounded, plain_right, plain_shaped, plain_count, then_is, some_at}
 
 -- ---- leaf lines
 

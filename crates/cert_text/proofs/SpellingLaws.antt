@@ -14,7 +14,7 @@ use Rattle.duality.specs.declared.leaf.Node.TheVariants.{Branch, Leaf as Closing
 use Rattle.duality.specs.Sums.{rises, is_small}
 use Rattle.cert_text.specs.declared.lines.CertLine.{CertLine}
 use Rattle.cert_text.specs.declared.lines.CertLine.TheVariants.{Head, Sizes, Choice, Values, Cuts, Cut, Level, Unfinished, Node, End}
-use Rattle.cert_text.specs.Numbers.{lacks, cut, joined, opt_then, number_of, signed_of, each_of}
+use Rattle.cert_text.specs.Numbers.{lacks, cut, joined, opt_then, number_of, number_up_to, signed_of, each_of}
 use Rattle.cert_text.specs.Spelling.{row_text, term_fields, leaf_fields, counted, fields_of, line_text, row_in_bounds, is_zero, term_in_bounds, leaf_in_bounds, in_bounds, is_rising, small_number, value_of, row_named, row_of, term_of, terms_of, counted_terms, leaf_of, only_number, pair_of, as_many, counted_of, six_of, values_of, leaf_number, open_line, node_line, level_line, first_line, line_in, line_of}
 use Rattle.cert_text.proofs.NumberLaws.{joined-cut, cut-joined, bytes_are, number_is, number_reads, opt_then_is, up_to_is, up_to_reads, signed_is, signed_reads, plain, decimal_plain, signed_plain_bytes, plain_lacks_blank, all_lack_blank, joined_lacks_feed, each_is, each_reads, each_plain, all_weaker}
 
@@ -44,10 +44,9 @@ numbers_read ns h = each_reads small_number decimal (λ n. nat_le n 200000) smal
 only_reads : (m n : ℕ) → m ≤ 200000 → nat_le n m ≡ true → only_number (map decimal (n ∷ [])) ≡ Some n
 only_reads m n l h = small_reads n (le_small m l n h)
 
-counted_reads : (ns : List ℕ) → all_small (length ns ∷ ns) ≡ true → counted_of (counted ns) ≡ Some ns
-counted_reads ns h =
-    let parts = and_parts (nat_le (length ns) 200000) (all_small ns) h in
-    rw (small_reads (length ns) parts.0, numbers_read ns parts.1, eq-eqb (length ns) (length ns) refl) refl
+counted_reads : (m k : ℕ) (ns : List ℕ) → m ≤ 200000 → k ≤ 200000 → nat_le (length ns) m ≡ true → list_all (λ n. nat_le n k) ns ≡ true → counted_of m (counted ns) ≡ Some ns
+counted_reads m k ns l j count each =
+    rw (up_to_reads m (length ns) (omega arith) count, numbers_read ns (all_weaker (λ n. nat_le n k) (λ n. nat_le n 200000) (le_small k j) ns each), eq-eqb (length ns) (length ns) refl) refl
 
 -- ---- values and leaves
 
@@ -143,7 +142,7 @@ leaf_read (pos n) ts h =
     let parts = and_parts (nat_le n (10 ^ 24)) (nat_le (length ts) 5005 && (list_all term_in_bounds ts && rises ts)) h in
     let count = and_parts (nat_le (length ts) 5005) (list_all term_in_bounds ts && rises ts) parts.1 in
     let each = and_parts (list_all term_in_bounds ts) (rises ts) count.1 in
-    rw (number_reads n (leb-true n (10 ^ 24) parts.0), small_reads (length ts) (le_small 5005 (omega arith) (length ts) count.0), terms_read ts each.0, eq-eqb (length ts) (length ts) refl) refl
+    rw (number_reads n (leb-true n (10 ^ 24) parts.0), up_to_reads 5005 (length ts) (omega arith) count.0, terms_read ts each.0, eq-eqb (length ts) (length ts) refl) refl
 
 -- ---- lines
 
@@ -154,7 +153,7 @@ line_reads (Sizes p r) h =
     rw (small_reads p parts.0, small_reads r (le_small 4000 (omega arith) r parts.1)) refl
 line_reads (Choice es) h =
     let parts = and_parts (nat_le (length es) 4000) (list_all (λ entry. nat_le entry 200) es) h in
-    ap (option_map Choice) (counted_reads es (counted_small 4000 200 es (omega arith) (omega arith) parts.0 parts.1))
+    ap (option_map Choice) (counted_reads 4000 200 es (omega arith) (omega arith) parts.0 parts.1)
 line_reads (Values vs) h =
     let parts = and_parts (length vs == 6) (list_all (is_small (10 ^ 12)) vs) h in
     rw (each_reads value_of signed_decimal (is_small (10 ^ 12)) value_reads vs parts.1, parts.0) refl
@@ -163,7 +162,7 @@ line_reads (Cut ps) h =
     let parts = and_parts (nat_le 2 (length ps)) (nat_le (length ps) 1000 && (list_all (λ p. nat_le p 199999) ps && is_rising ps)) h in
     let count = and_parts (nat_le (length ps) 1000) (list_all (λ p. nat_le p 199999) ps && is_rising ps) parts.1 in
     let each = and_parts (list_all (λ p. nat_le p 199999) ps) (is_rising ps) count.1 in
-    ap (option_map Cut) (counted_reads ps (counted_small 1000 199999 ps (omega arith) (omega arith) count.0 each.0))
+    ap (option_map Cut) (counted_reads 1000 199999 ps (omega arith) (omega arith) count.0 each.0)
 line_reads (Level j) h = ap (option_map Level) (only_reads 6 j (omega arith) h)
 line_reads (Unfinished j) h = ap (option_map Unfinished) (only_reads 6 j (omega arith) h)
 line_reads (Node (Branch p)) h = ap (option_map (λ q. Node (Branch q))) (only_reads 199999 p (omega arith) h)
@@ -198,16 +197,16 @@ pair_is (f ∷ (g ∷ [])) p h =
     ap (λ x. x ∷ (g ∷ [])) (up_to_is 200000 f a.0 a.1) ∙ ap (λ x. decimal a.0 ∷ (x ∷ [])) (up_to_is 200000 g b.0 b.1) ∙ ap pair_fields (same_Some (a.0, b.0) p b.2)
 pair_is (f ∷ (g ∷ (k ∷ fs))) p h = absurd (none-some p h)
 
-counted_is : (fs : List (List ℕ)) (ns : List ℕ) → counted_of fs ≡ Some ns → fs ≡ counted ns
-counted_is [] ns h = absurd (none-some ns h)
-counted_is (f ∷ fs) ns h = go (small_number f) (each_of small_number fs) refl refl h
+counted_is : (limit : ℕ) (fs : List (List ℕ)) (ns : List ℕ) → counted_of limit fs ≡ Some ns → fs ≡ counted ns
+counted_is limit [] ns h = absurd (none-some ns h)
+counted_is limit (f ∷ fs) ns h = go (number_up_to limit f) (each_of small_number fs) refl refl h
   where
-    go : (a : Option ℕ) (b : Option (List ℕ)) → a ≡ small_number f → b ≡ each_of small_number fs → as_many a b ≡ Some ns → f ∷ fs ≡ counted ns
+    go : (a : Option ℕ) (b : Option (List ℕ)) → a ≡ number_up_to limit f → b ≡ each_of small_number fs → as_many a b ≡ Some ns → f ∷ fs ≡ counted ns
     go None b p q h = absurd (none-some ns h)
     go (Some count) None p q h = absurd (none-some ns h)
     go (Some count) (Some ms) p q h =
         let e = cond_some (count == length ms) ms ns h in
-        ap (λ x. x ∷ fs) (up_to_is 200000 f count (sym p) ∙ ap decimal (eqb-true count (length ms) e.0))
+        ap (λ x. x ∷ fs) (up_to_is limit f count (sym p) ∙ ap decimal (eqb-true count (length ms) e.0))
         ∙ ap (λ xs. decimal (length ms) ∷ xs) (each_is small_number decimal (up_to_is 200000) fs ms (sym q))
         ∙ ap counted e.1
 
@@ -222,15 +221,15 @@ leaf_is : (fs : List (List ℕ)) (leaf : Leaf) → leaf_of fs ≡ Some leaf → 
 leaf_is [] leaf h = absurd (none-some leaf h)
 leaf_is (d ∷ []) leaf h = absurd (none-some leaf h)
 leaf_is (d ∷ (t ∷ fs)) leaf h =
-    let a = opt_then_is (number_of d) (λ n. counted_terms (pos n) (small_number t) (terms_of fs)) leaf h in
-    ap (λ x. x ∷ (t ∷ fs)) (number_is d a.0 a.1) ∙ go a.0 (small_number t) (terms_of fs) refl refl a.2
+    let a = opt_then_is (number_of d) (λ n. counted_terms (pos n) (number_up_to 5005 t) (terms_of fs)) leaf h in
+    ap (λ x. x ∷ (t ∷ fs)) (number_is d a.0 a.1) ∙ go a.0 (number_up_to 5005 t) (terms_of fs) refl refl a.2
   where
-    go : (n : ℕ) (a : Option ℕ) (b : Option (List Term)) → a ≡ small_number t → b ≡ terms_of fs → counted_terms (pos n) a b ≡ Some leaf → decimal n ∷ (t ∷ fs) ≡ leaf_fields leaf
+    go : (n : ℕ) (a : Option ℕ) (b : Option (List Term)) → a ≡ number_up_to 5005 t → b ≡ terms_of fs → counted_terms (pos n) a b ≡ Some leaf → decimal n ∷ (t ∷ fs) ≡ leaf_fields leaf
     go n None b p q h = absurd (none-some leaf h)
     go n (Some count) None p q h = absurd (none-some leaf h)
     go n (Some count) (Some ts) p q h =
         let e = cond_some (count == length ts) (leaf_with (pos n) ts) leaf h in
-        ap (λ x. decimal n ∷ (x ∷ fs)) (up_to_is 200000 t count (sym p) ∙ ap decimal (eqb-true count (length ts) e.0))
+        ap (λ x. decimal n ∷ (x ∷ fs)) (up_to_is 5005 t count (sym p) ∙ ap decimal (eqb-true count (length ts) e.0))
         ∙ ap (λ xs. decimal n ∷ (decimal (length ts) ∷ xs)) (terms_are fs ts (sym q))
         ∙ ap leaf_fields e.1
 
@@ -249,8 +248,8 @@ word w k fs x y p q = cond_both (bytes_eq w k) x y (Spelt (w ∷ fs)) (λ e. sub
 one_line : (w : List ℕ) (make : ℕ → CertLine) → ((n : ℕ) → fields_of (make n) ≡ w ∷ map decimal (n ∷ [])) → (fs : List (List ℕ)) → Spelt (w ∷ fs) (option_map make (only_number fs))
 one_line w make same fs = made w make (λ n. map decimal (n ∷ [])) same fs (only_number fs) (only_is fs)
 
-many_line : (w : List ℕ) (make : List ℕ → CertLine) → ((ns : List ℕ) → fields_of (make ns) ≡ w ∷ counted ns) → (fs : List (List ℕ)) → Spelt (w ∷ fs) (option_map make (counted_of fs))
-many_line w make same fs = made w make counted same fs (counted_of fs) (counted_is fs)
+many_line : (w : List ℕ) (make : List ℕ → CertLine) (limit : ℕ) → ((ns : List ℕ) → fields_of (make ns) ≡ w ∷ counted ns) → (fs : List (List ℕ)) → Spelt (w ∷ fs) (option_map make (counted_of limit fs))
+many_line w make limit same fs = made w make counted same fs (counted_of limit fs) (counted_is limit fs)
 
 node_is : (w : List ℕ) (fs : List (List ℕ)) (other : Option CertLine) → Spelt (w ∷ fs) other → Spelt (w ∷ fs) (node_line w fs other)
 node_is w fs other h =
@@ -258,7 +257,7 @@ node_is w fs other h =
     (word w (codes "leaf") fs _ _ (made (codes "leaf") (λ leaf. Node (Closing leaf)) leaf_fields (λ leaf. refl) fs (leaf_of fs) (leaf_is fs))
     (word w (codes "same") fs _ _ (made (codes "same") (λ q. Node (Same q)) (λ q. map decimal (q ∷ [])) (λ q. refl) fs (leaf_number fs) (same_is fs))
     (word w (codes "open") fs _ _ (open_is fs)
-    (word w (codes "cut") fs _ _ (many_line (codes "cut") Cut (λ ns. refl) fs) h))))
+    (word w (codes "cut") fs _ _ (many_line (codes "cut") Cut 1000 (λ ns. refl) fs) h))))
 
 level_is : (w : List ℕ) (fs : List (List ℕ)) (other : Option CertLine) → Spelt (w ∷ fs) other → Spelt (w ∷ fs) (level_line w fs other)
 level_is w fs other h =
@@ -271,7 +270,7 @@ first_is : (w : List ℕ) (fs : List (List ℕ)) (other : Option CertLine) → S
 first_is w fs other h =
     word w (codes "rooms-certificate") fs _ _ (one_line (codes "rooms-certificate") Head (λ n. refl) fs)
     (word w (codes "model") fs _ _ (made (codes "model") (λ p. Sizes p.0 p.1) pair_fields (λ p. refl) fs (pair_of fs) (pair_is fs))
-    (word w (codes "choice") fs _ _ (many_line (codes "choice") Choice (λ ns. refl) fs)
+    (word w (codes "choice") fs _ _ (many_line (codes "choice") Choice 4000 (λ ns. refl) fs)
     (word w (codes "values") fs _ _ (made (codes "values") Values (map signed_decimal) (λ vs. refl) fs (values_of fs) (values_are fs)) h)))
 
 line_is : (fs : List (List ℕ)) → Spelt fs (line_in fs)

@@ -175,7 +175,7 @@ no_name (Some s) = refl
 pub named_none : (old new : Reader) (line : CertLine) → named old.named line ≡ None → Took (steps (standing_of old) line) (standing_of new) false
 named_none old new line h = subst (λ o. Took o (standing_of new) false) (sym (ap (stands_at (step (state_of old) line)) h ∙ no_name (step (state_of old) line))) refl
 
-not_named : (o : Option Named) (k : Named) (ok : Bool) → TookName o k ok → ok ≡ false → o ≡ None
+pub not_named : (o : Option Named) (k : Named) (ok : Bool) → TookName o k ok → ok ≡ false → o ≡ None
 not_named None k ok h e = refl
 not_named (Some n) k ok h e = absurd (true≢false (sym h.0 ∙ e))
 

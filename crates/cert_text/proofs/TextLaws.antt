@@ -14,6 +14,7 @@ use Rattle.cert_text.specs.Grammar.{State, lines_of, step, and_then, runs, is_sh
 use Rattle.cert_text.specs.Sharing.{none_named, named, names_then, all_named}
 use Rattle.cert_text.specs.Grammar.State.{Begun, Headed, Sized, Chosen, Valued, Cutting, Between, Inside, Loose, After, Over}
 use Rattle.cert_text.specs.Text.{fed, IsText, BeginsText, pieces_before, last_of, whole_lines, rest_of, IsFaultyLine, Standing, begun, stands_at, steps, takes, read_over, read_end, read_from, certificate_of}
+use Rattle.cert_text.specs.Pieces.{then_stands, run}
 use Rattle.cert_text.proofs.NumberLaws.{joined-cut, cut-before, opt_then_is}
 use Rattle.cert_text.proofs.SpellingLaws.{line_of-is, line_of-reads, line_lacks_feed}
 use Rattle.cert_text.proofs.GrammarLaws.{lines_are, lines_read, read_shaped, begins_lines, finish}
@@ -45,7 +46,7 @@ bytes_split bytes =
     let some = cut_some 10 bytes in
     sym (joined-cut 10 bytes) ∙ ap (joined 10) some.2 ∙ joined_fed some.0 some.1 ∙ ap (λ ps. fed (pieces_before ps) ++ last_of ps) (sym some.2)
 
-fed-whole : (ls : List (List ℕ)) (rest : List ℕ) → list_all (lacks 10) ls ≡ true → (whole_lines (fed ls ++ rest) ≡ ls ++ whole_lines rest) × (rest_of (fed ls ++ rest) ≡ rest_of rest)
+pub fed-whole : (ls : List (List ℕ)) (rest : List ℕ) → list_all (lacks 10) ls ≡ true → (whole_lines (fed ls ++ rest) ≡ ls ++ whole_lines rest) × (rest_of (fed ls ++ rest) ≡ rest_of rest)
 fed-whole [] rest h = (refl, refl)
 fed-whole (l ∷ ls) rest h =
     let parts = and_parts (lacks 10 l) (list_all (lacks 10) ls) h in
@@ -86,14 +87,6 @@ take_lacks (suc k) (l ∷ ls) h =
     and_from (lacks 10 l) (list_all (lacks 10) (take k ls)) parts.0 (take_lacks k ls parts.1)
 
 -- ---- lines that are taken one after the other
-
-abbrev then_stands : Option Standing → (Standing → Option Standing) → Option Standing
-then_stands None f = None
-then_stands (Some s) f = f s
-
-abbrev run : Standing → List (List ℕ) → Option Standing
-run s [] = Some s
-run s (l ∷ ls) = then_stands (takes s l) (λ t. run t ls)
 
 record AreTaken (s t : Standing) (texts : List (List ℕ)) : Type 0 where
   pub lines : List CertLine
@@ -167,7 +160,7 @@ pub fed-append : (xs ys : List (List ℕ)) → fed (xs ++ ys) ≡ fed xs ++ fed 
 fed-append [] ys = refl
 fed-append (x ∷ xs) ys = ap (λ bs. x ++ (10 ∷ bs)) (fed-append xs ys) ∙ sym (append_assoc x (10 ∷ fed xs) (fed ys))
 
-run-append : (xs ys : List (List ℕ)) (s : Standing) → run s (xs ++ ys) ≡ then_stands (run s xs) (λ t. run t ys)
+pub run-append : (xs ys : List (List ℕ)) (s : Standing) → run s (xs ++ ys) ≡ then_stands (run s xs) (λ t. run t ys)
 run-append [] ys s = refl
 run-append (x ∷ xs) ys s = go (takes s x) (run-append xs ys)
   where
@@ -180,7 +173,7 @@ run-append (x ∷ xs) ys s = go (takes s x) (run-append xs ys)
 abbrev then_read : ℕ → List (List ℕ) → List ℕ → Option Standing → Result Certificate ℕ
 then_read n lines rest o = elim o [ None ↦ Err n | Some t ↦ read_from t (n + 1) lines rest ]
 
-read_ran : (ls : List (List ℕ)) (s t : Standing) (n : ℕ) (rest : List ℕ) → run s ls ≡ Some t → read_from s n ls rest ≡ read_end t.state (n + length ls) rest
+pub read_ran : (ls : List (List ℕ)) (s t : Standing) (n : ℕ) (rest : List ℕ) → run s ls ≡ Some t → read_from s n ls rest ≡ read_end t.state (n + length ls) rest
 read_ran [] s t n rest h = ap (λ u. read_end u.state n rest) (same_Some s t h) ∙ ap (λ m. read_end t.state m rest) (omega arith)
 read_ran (l ∷ ls) s t n rest h =
     let first = then_is (takes s l) (λ u. run u ls) t h in
@@ -328,7 +321,7 @@ text_is bytes c h =
     }
 
 -- lines that are taken begin a text
-taken_begin : (texts : List (List ℕ)) (s : Standing) → run begun texts ≡ Some s → BeginsText (fed texts)
+pub taken_begin : (texts : List (List ℕ)) (s : Standing) → run begun texts ≡ Some s → BeginsText (fed texts)
 taken_begin texts s h =
     let taken = run_is texts begun s h in
     let end = begins_lines taken.lines s.state s.named taken.ran taken.named in

@@ -7,3 +7,5 @@ pub mod Places
 pub mod Reading
 pub mod Adding
 pub mod Writing
+pub mod Kept
+pub mod Pieces

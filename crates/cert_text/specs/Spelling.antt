@@ -133,11 +133,11 @@ abbrev pub counted_terms : ℤ → Option ℕ → Option (List Term) → Option 
 counted_terms scale (Some count) (Some ts) = if count == length ts then Some (record { scale = scale; terms = ts }) else None
 counted_terms scale count ts = None
 
--- a scale, the number of terms, and the terms
+-- a scale, the number of terms, which is in its bounds, and the terms
 abbrev pub leaf_of : List (List ℕ) → Option Leaf
 leaf_of [] = None
 leaf_of (d ∷ []) = None
-leaf_of (d ∷ (t ∷ fields)) = opt_then (number_of d) (λ scale. counted_terms (pos scale) (small_number t) (terms_of fields))
+leaf_of (d ∷ (t ∷ fields)) = opt_then (number_of d) (λ scale. counted_terms (pos scale) (number_up_to 5005 t) (terms_of fields))
 
 -- one number
 abbrev pub only_number : List (List ℕ) → Option ℕ
@@ -156,10 +156,10 @@ abbrev pub as_many : Option ℕ → Option (List ℕ) → Option (List ℕ)
 as_many (Some count) (Some ns) = if count == length ns then Some ns else None
 as_many count ns = None
 
--- a number, and as many more
-abbrev pub counted_of : List (List ℕ) → Option (List ℕ)
-counted_of [] = None
-counted_of (f ∷ fields) = as_many (small_number f) (each_of small_number fields)
+-- a number up to a limit, and as many more numbers
+abbrev pub counted_of : ℕ → List (List ℕ) → Option (List ℕ)
+counted_of limit [] = None
+counted_of limit (f ∷ fields) = as_many (number_up_to limit f) (each_of small_number fields)
 
 abbrev pub six_of : Option (List ℤ) → Option (List ℤ)
 six_of None = None
@@ -185,7 +185,7 @@ node_line w fs other =
     else (if bytes_eq w (codes "leaf") then option_map (λ leaf. Node (Closing leaf)) (leaf_of fs)
     else (if bytes_eq w (codes "same") then option_map (λ q. Node (Same q)) (leaf_number fs)
     else (if bytes_eq w (codes "open") then open_line fs
-    else (if bytes_eq w (codes "cut") then option_map Cut (counted_of fs)
+    else (if bytes_eq w (codes "cut") then option_map Cut (counted_of 1000 fs)
     else other))))
 
 -- the lines around the trees
@@ -202,7 +202,7 @@ abbrev pub first_line : List ℕ → List (List ℕ) → Option CertLine → Opt
 first_line w fs other =
     if bytes_eq w (codes "rooms-certificate") then option_map Head (only_number fs)
     else (if bytes_eq w (codes "model") then option_map (λ p. Sizes p.0 p.1) (pair_of fs)
-    else (if bytes_eq w (codes "choice") then option_map Choice (counted_of fs)
+    else (if bytes_eq w (codes "choice") then option_map Choice (counted_of 4000 fs)
     else (if bytes_eq w (codes "values") then option_map Values (values_of fs)
     else other)))
 

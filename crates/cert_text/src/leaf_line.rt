@@ -1,14 +1,14 @@
-ghost use Rattle.std.specs.Prelude.{◌≡◌, IfOk};
+ghost use Rattle.std.specs.Prelude.{◌≡◌, IfOk, Some};
 ghost use Rattle.cert_text.specs.Numbers.{each_of};
 ghost use Rattle.cert_text.specs.Spelling.{small_number, value_of, values_of, six_of, row_of, row_named, term_of, terms_of, counted_terms, leaf_of};
 
 use crate::fields::Fields;
-use crate::number::{read_natural, read_small, read_value, read_whole};
+use crate::number::{read_natural, read_small, read_up_to, read_value, read_whole};
 use duality::{Leaf, RowName, Term};
 use std::alloc::{AllocError, Global};
 use values::Items;
 
-/// The leaf that the fields behind the word `leaf` spell.
+/// The leaf that the fields behind the word `leaf` spell. The terms are read only where their number is in its bounds.
 pub fn read_leaf(alloc: Global, fields: &mut Fields) -> Result<Option<Leaf>, AllocError>
     ensures { IfOk result (λ leaf. leaf ≡ leaf_of fields.old) }
 {
@@ -18,25 +18,24 @@ pub fn read_leaf(alloc: Global, fields: &mut Fields) -> Result<Option<Leaf>, All
     let Some(count) = fields.next() else {
         return Ok(None);
     };
+    let Some(scale) = read_natural(scale) else {
+        return Ok(None);
+    };
+    let Some(count) = read_up_to(count, 5_005) else {
+        return Ok(None);
+    };
     let terms = read_terms(alloc, fields)?;
-    match read_natural(scale) {
-        Some(scale) => Ok(counted_terms(scale as i128, read_small(count), terms)),
-        None => Ok(None),
-    }
+    Ok(counted_terms(scale as i128, count, terms))
 }
 
-fn counted_terms(scale: i128, count: Option<u32>, terms: Option<Items<Term>>) -> Option<Leaf>
-    ensures { result ≡ counted_terms scale count terms }
+fn counted_terms(scale: i128, count: u32, terms: Option<Items<Term>>) -> Option<Leaf>
+    ensures { result ≡ counted_terms scale (Some count) terms }
 {
-    match (count, terms) {
-        (Some(count), Some(terms)) => {
-            if count as usize == terms.len() {
-                Some(Leaf { scale, terms })
-            } else {
-                None
-            }
-        }
-        _ => None,
+    let terms = terms?;
+    if count as usize == terms.len() {
+        Some(Leaf { scale, terms })
+    } else {
+        None
     }
 }
 

@@ -1,4 +1,4 @@
-ghost use Rattle.std.specs.Prelude.{◌≡◌, IfOk, None, option_map};
+ghost use Rattle.std.specs.Prelude.{◌≡◌, IfOk, None, Some, option_map};
 ghost use Rattle.cert_text.specs.declared.lines.CertLine.TheVariants as lines;
 ghost use Rattle.cert_text.specs.Numbers.{each_of};
 ghost use Rattle.cert_text.specs.Spelling.{small_number, only_number, pair_of, counted_of, as_many, leaf_number, open_line, node_line, level_line, first_line, line_of, bounded};
@@ -6,16 +6,21 @@ ghost use Rattle.cert_text.specs.Spelling.{small_number, only_number, pair_of, c
 use crate::bounds::in_bounds;
 use crate::fields::Fields;
 use crate::leaf_line::{read_leaf, read_values};
+use crate::line_rest::LINE_LIMIT;
 use crate::lines::CertLine;
-use crate::number::{read_small, read_wide};
+use crate::number::{read_small, read_up_to, read_wide};
 use duality::Node;
 use std::alloc::{AllocError, Global};
 use values::Items;
 
-/// The line of a certificate that the bytes spell, without their line feed; `None` where they are no line.
+/// The line of a certificate that the bytes spell, without their line feed; `None` where they are no line. Bytes that
+/// are too many for a line are not looked at.
 pub fn read_line(alloc: Global, line: &[u8]) -> Result<Option<CertLine>, AllocError>
     ensures { IfOk result (λ l. l ≡ line_of line.now) }
 {
+    if line.len() > LINE_LIMIT {
+        return Ok(None);
+    }
     let mut fields = Fields::new(line);
     match fields.next() {
         None => Ok(None),
@@ -56,7 +61,7 @@ fn read_node_line(
         return Ok(open_line(fields));
     }
     if word == b"cut".as_slice() {
-        return Ok(read_counted(alloc, fields)?.map(|patterns| CertLine::Cut(patterns)));
+        return Ok(read_counted(alloc, 1_000, fields)?.map(|patterns| CertLine::Cut(patterns)));
     }
     read_level_line(alloc, word, fields)
 }
@@ -111,7 +116,7 @@ fn read_first_line(
         }));
     }
     if word == b"choice".as_slice() {
-        return Ok(read_counted(alloc, fields)?.map(|entries| CertLine::Choice(entries)));
+        return Ok(read_counted(alloc, 4_000, fields)?.map(|entries| CertLine::Choice(entries)));
     }
     if word == b"values".as_slice() {
         return Ok(values_line(read_values(alloc, fields)?));
@@ -182,30 +187,31 @@ fn read_numbers(alloc: Global, fields: &mut Fields) -> Result<Option<Items<u32>>
     Ok(Some(numbers))
 }
 
-// A number, and as many more.
-fn read_counted(alloc: Global, fields: &mut Fields) -> Result<Option<Items<u32>>, AllocError>
-    ensures { IfOk result (λ ns. ns ≡ counted_of fields.old) }
+// A number up to a limit, and as many more, which are read only where it is one.
+fn read_counted(
+    alloc: Global,
+    limit: u32,
+    fields: &mut Fields,
+) -> Result<Option<Items<u32>>, AllocError>
+    ensures { IfOk result (λ ns. ns ≡ counted_of limit fields.old) }
 {
-    match fields.next() {
-        None => Ok(None),
-        Some(field) => {
-            let numbers = read_numbers(alloc, fields)?;
-            Ok(as_many(read_small(field), numbers))
-        }
-    }
+    let Some(field) = fields.next() else {
+        return Ok(None);
+    };
+    let Some(count) = read_up_to(field, limit) else {
+        return Ok(None);
+    };
+    let numbers = read_numbers(alloc, fields)?;
+    Ok(as_many(count, numbers))
 }
 
-fn as_many(count: Option<u32>, numbers: Option<Items<u32>>) -> Option<Items<u32>>
-    ensures { result ≡ as_many count numbers }
+fn as_many(count: u32, numbers: Option<Items<u32>>) -> Option<Items<u32>>
+    ensures { result ≡ as_many (Some count) numbers }
 {
-    match (count, numbers) {
-        (Some(count), Some(numbers)) => {
-            if count as usize == numbers.len() {
-                Some(numbers)
-            } else {
-                None
-            }
-        }
-        _ => None,
+    let numbers = numbers?;
+    if count as usize == numbers.len() {
+        Some(numbers)
+    } else {
+        None
     }
 }

@@ -48,8 +48,15 @@ pub fn read_whole(field: &[u8]) -> Option<i128>
 pub fn read_small(field: &[u8]) -> Option<u32>
     ensures { result ≡ small_number field.now }
 {
+    read_up_to(field, 200_000)
+}
+
+/// The natural number up to a limit that a field spells.
+pub fn read_up_to(field: &[u8], limit: u32) -> Option<u32>
+    ensures { result ≡ number_up_to limit field.now }
+{
     match read_natural(field) {
-        Some(number) if number <= 200_000 => Some(number as u32),
+        Some(number) if number <= u128::from(limit) => Some(number as u32),
         _ => None,
     }
 }

@@ -37,7 +37,8 @@ pub fn read_cert(alloc: Global, bytes: &[u8]) -> Result<Certificate, TextFault>
     reader.finish(number, rest)
 }
 
-fn fault_at(line: u64) -> TextFault
+/// The fault of a line of a text.
+pub fn fault_at(line: u64) -> TextFault
     ensures { result ≡ faults.Line (record { line = line; kind = kinds.Text }) }
 {
     TextFault::Line(LineFault {

@@ -2,6 +2,7 @@ pub mod Causes
 pub mod Shelf
 pub mod Memory
 pub mod Reading
+pub mod Taking
 pub mod Lines
 pub mod Rows
 pub mod Fields

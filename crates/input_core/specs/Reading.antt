@@ -28,8 +28,3 @@ pub record AddsPiece (tells : Bool) (held : Option (List ℕ)) (limit : ℕ) (ol
   pub next : IsTrue tells → (all : List ℕ) → held ≡ Some all → old ≡ take (length old) all → new ≡ take (length new) all
   pub some : IsTrue tells → (all : List ℕ) → held ≡ Some all → n ≡ 0 → length all ≤ length old
   pub known : IsTrue tells → held ≡ None → ⊥
-
-abbrev pub StepFails : Bool → Option (List ℕ) → ℕ → ℕ → ReadRefusal → Type 0
-StepFails tells held before now Fault = Rose before now ⊎ (IsTrue tells × (held ≡ None))
-StepFails tells held before now (TooLong taken) = ⊥
-StepFails tells held before now Memory = Unit {0}

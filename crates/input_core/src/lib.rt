@@ -11,6 +11,7 @@ mod mem_shelf;
 mod read;
 mod shelf;
 mod sink;
+mod taker;
 
 pub use cursors::{Fields, Lines, Row, Rows};
 pub use faults::{LineFault, LineKind, Memory, TextFault, kind_text};
@@ -18,6 +19,7 @@ pub use fields::{NAME_LIMIT, read_name, read_number_below, read_number_in, text_
 pub use files::FileShelf;
 pub use lines::{is_allowed_line, next_field, next_line, read_number};
 pub use mem_shelf::MemShelf;
-pub use read::{INPUT_LIMIT, ReadRefusal, read_all};
+pub use read::{INPUT_LIMIT, ReadRefusal, read_all, read_into};
 pub use shelf::{Fault, PutFault, Shelf, Sink};
 pub use sink::{MemSink, OutSink};
+pub use taker::Taker;

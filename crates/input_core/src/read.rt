@@ -1,8 +1,11 @@
-ghost use Rattle.std.specs.Prelude.{◌≡◌, ◌≤◌, ◌<◌, ◌+◌, ◌^◌, ℕ, IfOk, IfErr, IfSome, IsTrue, length, Some, None};
-ghost use Rattle.input_core.specs.Reading.{ReadFails, StepFails, IsWhole, AddsPiece, NoneFailed};
+ghost use Rattle.std.specs.Prelude.{◌≡◌, ◌≤◌, ◌<◌, ◌+◌, ◌-◌, ◌^◌, ℕ, IfOk, IfErr, OnOk, length};
+ghost use Rattle.input_core.specs.Reading.{ReadFails, IsWhole, NoneFailed};
+ghost use Rattle.input_core.specs.Taking.{TakesWhole, TakesFront, TakesPiece, LeavesTaker};
 ghost use Rattle.input_core.specs.Shelf.{OnlyReads};
 
+use crate::faults::Memory;
 use crate::shelf::Shelf;
+use crate::taker::Taker;
 use std::alloc::{AllocError, Global};
 use thiserror::Error;
 
@@ -31,6 +34,17 @@ impl From<AllocError> for ReadRefusal {
     }
 }
 
+impl From<Memory> for ReadRefusal {
+    ghost use Rattle.input_core.specs.declared.read.ReadRefusal.TheVariants as refusals;
+    ghost use Rattle.std.specs.Prelude.{◌≡◌};
+
+    ghost from_gives = { λ _ e. e ≡ refusals.Memory };
+
+    fn from(_: Memory) -> ReadRefusal {
+        ReadRefusal::Memory
+    }
+}
+
 /// The most bytes of an input file.
 pub const INPUT_LIMIT: u64 = 16_777_216;
 
@@ -53,17 +67,41 @@ pub fn read_all<S: Shelf>(
     ensures only { OnlyReads S.tells S.held S.piece_faults S.put_faults shelf.old shelf.new }
 {
     let mut bytes = Vec::new(alloc);
+    read_into(alloc, shelf, name, limit, &mut bytes)?;
+    Ok(bytes)
+}
+
+/// Hands all that a name holds to a taker, if it is no longer than the limit, and answers how many bytes it is.
+/// The shelf is asked as by `read_all`, and the refusals are its refusals; `Memory` comes also where `take` answered
+/// it. No more bytes than the limit are handed over: after `Fault` and `TooLong` they are a front of what the name
+/// holds, and after `Memory` nothing is known of what the taker stands for.
+pub fn read_into<S: Shelf, T: Taker>(
+    alloc: Global,
+    shelf: &mut S,
+    name: &str,
+    limit: u64,
+    taker: &mut T,
+) -> Result<u64, ReadRefusal>
+    requires { T.bytes_taken taker.old + limit ≤ 2 ^ 63 - 1 }
+    ensures whole { IfOk result (TakesWhole (S.tells shelf.old) (S.held shelf.old name.now) limit (T.stands taker.old) (T.stands taker.new)) }
+    ensures counted { IfOk result (λ count. T.bytes_taken taker.new ≡ T.bytes_taken taker.old + count) }
+    ensures kept { OnOk result (T.kept taker.new ≡ T.kept taker.old) }
+    ensures cause { IfErr result (ReadFails (S.tells shelf.old) (S.held shelf.old name.now) (S.piece_faults shelf.old) (S.piece_faults shelf.new) limit) }
+    ensures front { IfErr result (TakesFront (S.tells shelf.old) (S.held shelf.old name.now) limit (T.stands taker.old) (T.stands taker.new)) }
+    ensures calls { NoneFailed (S.piece_faults shelf.old) (S.piece_faults shelf.new) result }
+    ensures only { OnlyReads S.tells S.held S.piece_faults S.put_faults shelf.old shelf.new }
+{
     let mut piece = piece_buffer(alloc)?;
-    'pieces: while bytes.len() as u64 <= limit {
-        let want = PIECE.min((limit - bytes.len() as u64) as usize + 1);
-        let count = take_piece(shelf, name, limit, &mut piece[..want], &mut bytes)?;
+    let mut done: u64 = 0;
+    'pieces: while done <= limit {
+        let want = PIECE.min((limit - done) as usize + 1);
+        let count = hand_piece(shelf, name, limit, done, &mut piece[..want], taker)?;
         if count == 0 {
-            return Ok(bytes);
+            return Ok(done);
         }
+        done += count as u64;
     }
-    Err(ReadRefusal::TooLong {
-        taken: bytes.len() as u64,
-    })
+    Err(ReadRefusal::TooLong { taken: done })
 }
 
 /// Room for one piece.
@@ -73,25 +111,33 @@ fn piece_buffer(alloc: Global) -> Result<Vec<u8>, AllocError>
     vec![in alloc; 0u8; PIECE]
 }
 
-/// Adds the next piece, and answers how long it is.
-fn take_piece<S: Shelf>(
+/// Hands over the piece that begins behind the bytes that are done, and answers how long it is.
+fn hand_piece<S: Shelf, T: Taker>(
     shelf: &mut S,
     name: &str,
     limit: u64,
+    done: u64,
     piece: &mut [u8],
-    bytes: &mut Vec<u8>,
+    taker: &mut T,
 ) -> Result<usize, ReadRefusal>
     requires room { 0 < length piece.old }
-    requires fits { length bytes.old.items + length piece.old ≤ limit + 1 }
-    ensures added { IfOk result (λ n. AddsPiece (S.tells shelf.old) (S.held shelf.old name.now) limit bytes.old.items bytes.new.items n) }
-    ensures cause { IfErr result (StepFails (S.tells shelf.old) (S.held shelf.old name.now) (S.piece_faults shelf.old) (S.piece_faults shelf.new)) }
+    requires fits { done + length piece.old ≤ limit + 1 }
+    requires few { T.bytes_taken taker.old + (limit - done) ≤ 2 ^ 63 - 1 }
+    requires small { limit < 2 ^ 63 }
+    ensures handed { IfOk result (TakesPiece (S.tells shelf.old) (S.held shelf.old name.now) limit done (T.stands taker.old) (T.stands taker.new)) }
+    ensures counted { IfOk result (λ count. T.bytes_taken taker.new ≡ T.bytes_taken taker.old + count) }
+    ensures kept { OnOk result (T.kept taker.new ≡ T.kept taker.old) }
+    ensures cause { IfErr result (ReadFails (S.tells shelf.old) (S.held shelf.old name.now) (S.piece_faults shelf.old) (S.piece_faults shelf.new) limit) }
+    ensures left { IfErr result (LeavesTaker (T.stands taker.old) (T.stands taker.new)) }
     ensures calls { NoneFailed (S.piece_faults shelf.old) (S.piece_faults shelf.new) result }
     ensures only { OnlyReads S.tells S.held S.piece_faults S.put_faults shelf.old shelf.new }
 {
-    let taken = bytes.len() as u64;
-    match shelf.piece(name, taken, piece) {
+    match shelf.piece(name, done, piece) {
+        Ok(count) if count as u64 > limit - done => Err(ReadRefusal::TooLong {
+            taken: done + count as u64,
+        }),
         Ok(count) => {
-            bytes.extend_from_slice(&piece[..count])?;
+            taker.take(&piece[..count])?;
             Ok(count)
         }
         Err(_) => Err(ReadRefusal::Fault),

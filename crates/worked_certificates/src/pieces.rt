@@ -10,6 +10,14 @@ use worked_shapes::{Shape, one_meeting, problem_of};
 const SHARED: &[u8] =
     b"rooms-certificate 2\nmodel 1 2\nchoice 1 1\nvalues 1 10 500 0 -1 0\ncuts 0\nlevel 1\nleaf 1 1 b0 1\nlevel 2\nleaf 1 1 b0 10\nlevel 3\nleaf 1 1 b0 500\nlevel 4\nleaf 1 0\nlevel 5\nleaf 1 1 l1 -1\nlevel 6\nsame 3\nend 6\n";
 
+/// The same in version 1, where the last leaf stands again.
+const PLAIN: &[u8] =
+    b"rooms-certificate 1\nmodel 1 2\nchoice 1 1\nvalues 1 10 500 0 -1 0\ncuts 0\nlevel 1\nleaf 1 1 b0 1\nlevel 2\nleaf 1 1 b0 10\nlevel 3\nleaf 1 1 b0 500\nlevel 4\nleaf 1 0\nlevel 5\nleaf 1 1 l1 -1\nlevel 6\nleaf 1 0\nend 6\n";
+
+/// The same with a tree in the first level that branches on a pattern twice.
+const BRANCHED: &[u8] =
+    b"rooms-certificate 1\nmodel 1 2\nchoice 1 1\nvalues 1 10 500 0 -1 0\ncuts 0\nlevel 1\nbranch 0\nbranch 0\nleaf 1 0\nleaf 1 0\nleaf 1 1 b0 1\nlevel 2\nleaf 1 1 b0 10\nlevel 3\nleaf 1 1 b0 500\nlevel 4\nleaf 1 0\nlevel 5\nleaf 1 1 l1 -1\nlevel 6\nleaf 1 0\nend 6\n";
+
 /// A pattern is branched on twice.
 const TWICE: &[u8] =
     b"rooms-certificate 1\nmodel 1 2\nchoice 1 1\nvalues 1 10 500 0 -1 0\ncuts 0\nlevel 1\nbranch 0\nbranch 0\nleaf 1 0\nleaf 1 0\nleaf 1 1 b0 1\nend 1\n";
@@ -36,7 +44,18 @@ fn verdict_of_two(
     checker.finish()
 }
 
-/// That the text has the verdict at once, and cut in two at each of its places.
+fn verdict_of_bytes(alloc: Global, model: &Model, text: &[u8]) -> Result<Verdict, Memory> {
+    let mut checker = Checker::new(alloc, model);
+    for byte in text.chunks(1) {
+        if checker.taken() > 1_000_000 {
+            return Err(Memory);
+        }
+        checker.feed(byte)?;
+    }
+    checker.finish()
+}
+
+/// That the text has the verdict at once, a byte at a time, and cut in two at each of its places.
 fn judge_pieces(
     rt: &impl Abort,
     alloc: Global,
@@ -45,6 +64,7 @@ fn judge_pieces(
     verdict: Verdict,
 ) -> Result<(), Fail> {
     assert!(rt; check(alloc, model, text)? == verdict);
+    assert!(rt; verdict_of_bytes(alloc, model, text)? == verdict);
     for size in 0..=text.len() {
         let (first, second) = text.split_at(size);
         assert!(rt; verdict_of_two(alloc, model, first, second)? == verdict);
@@ -61,6 +81,15 @@ fn judge_texts(rt: &impl Abort, alloc: Global, model: &Model) -> Result<(), Fail
         SHARED,
         Verdict::Verified { levels: 6, values },
     )?;
+    judge_pieces(
+        rt,
+        alloc,
+        model,
+        PLAIN,
+        Verdict::Verified { levels: 6, values },
+    )?;
+    let reason = Reason::NotFree { pattern: 0 };
+    judge_pieces(rt, alloc, model, BRANCHED, Verdict::Not { line: 8, reason })?;
     let reason = Reason::NotFree { pattern: 0 };
     judge_pieces(rt, alloc, model, TWICE, Verdict::Not { line: 8, reason })?;
     let reason = Reason::Text;

@@ -12,7 +12,7 @@ returns-then-not-branch-clause-fed c = λ bytes fed.
     let x = c.lines.self in
     let next = next_is c.lines.left.now line after c.in-Some.ensures.0 c.in-Some.ensures.1 in
     subst (IsStopped x.reading.progress.line) (append_assoc bytes before (line ++ 10 ∷ after) ∙ ap (λ y. bytes ++ y) (ap (λ y. before ++ y) (sym next.split) ∙ sym inv.going.1))
-    (fed_stops c.args.m.now x.reading c.take_line.new.self.reading x.rest.items line after (bytes ++ before) c.in_ok-take_line.field-0 (inv.going.2 bytes fed) next.inside c.in_ok-take_line.ensures.at c.if-not-branch.true)
+    (fed_stops c.args.m.now x.reading c.take_line.new.self.reading x.rest line after (bytes ++ before) c.in_ok-take_line.field-0 (inv.going.2 bytes fed) next.inside c.in_ok-take_line.ensures.at c.if-not-branch.true)
 
 pub lines-preserved : goal.lines-preserved
 lines-preserved c =
@@ -33,7 +33,7 @@ lines-preserved c =
         inv.going.1 ∙ ap (λ y. before ++ y) (next.split ∙ sym (append_assoc line (10 ∷ []) after)) ∙ sym (append_assoc before (line ++ 10 ∷ []) after),
         λ bytes fed. subst (λ rest. IsGoing c.args.m.now new.reading rest (bytes ++ (before ++ (line ++ 10 ∷ [])))) (sym c.in_ok-take_line.ensures.rest)
             (subst (IsGoing c.args.m.now new.reading []) (append_assoc bytes before (line ++ 10 ∷ []))
-            (fed_on c.args.m.now x.reading new.reading x.rest.items line (bytes ++ before) c.in_ok-take_line.field-0 (inv.going.2 bytes fed) next.inside c.in_ok-take_line.ensures.at c.if-not-branch.false count)),
+            (fed_on c.args.m.now x.reading new.reading x.rest line (bytes ++ before) c.in_ok-take_line.field-0 (inv.going.2 bytes fed) next.inside c.in_ok-take_line.ensures.at c.if-not-branch.false count)),
       );
     }
 
@@ -43,8 +43,7 @@ returns-clause-fed c = λ bytes fed.
     let before = inv.going.0 in
     let x = c.lines.self in
     let left = c.lines.left.now in
-    let rest = c.extend_from_slice.new.self.items in
-    let going = fed_rest c.args.m.now x.reading x.rest.items left (bytes ++ before) (inv.going.2 bytes fed) (none_whole left c.in_default.ensures.0 c.in_default.ensures.1) in
-    subst (λ o. IsFedAt c.args.m.now o x.reading rest (bytes ++ c.args.piece.now)) (sym inv.faulty)
-    (subst (λ y. IsGoing c.args.m.now x.reading y (bytes ++ c.args.piece.now)) (sym c.in_ok-extend_from_slice.ensures.items)
-    (subst (IsGoing c.args.m.now x.reading (x.rest.items ++ left)) (append_assoc bytes before left ∙ ap (λ y. bytes ++ y) (sym inv.going.1)) going))
+    let kept = c.add.new.self in
+    let going = fed_rest c.args.m.now x.reading x.rest left kept (bytes ++ before) (inv.going.2 bytes fed) (none_whole left c.in_default.ensures.0 c.in_default.ensures.1) c.in_ok-add.ensures in
+    subst (λ o. IsFedAt c.args.m.now o x.reading kept (bytes ++ c.args.piece.now)) (sym inv.faulty)
+    (subst (IsGoing c.args.m.now x.reading kept) (append_assoc bytes before left ∙ ap (λ y. bytes ++ y) (sym inv.going.1)) going)

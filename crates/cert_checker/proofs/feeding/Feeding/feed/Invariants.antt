@@ -9,7 +9,7 @@ invariant-lines l = record {
   faulty : l.self.faulty ≡ None;
   sound : IsSound l.m l.self.reading;
   within : l.self.reading.progress.line + length l.left ≤ l.fn.self.reading.progress.line + length l.piece;
-  going : (before : List ℕ) × (l.piece ≡ before ++ l.left) × ((bytes : List ℕ) → IsFed l.m l.fn.self bytes → IsGoing l.m l.self.reading l.self.rest.items (bytes ++ before));
+  going : (before : List ℕ) × (l.piece ≡ before ++ l.left) × ((bytes : List ℕ) → IsFed l.m l.fn.self bytes → IsGoing l.m l.self.reading l.self.rest (bytes ++ before));
 }
 
 abbrev pub decreases-lines : goal.decreases-lines
