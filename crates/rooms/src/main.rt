@@ -3,10 +3,12 @@
 
 ghost use Rattle.std.specs.Prelude.{◌≡◌, ◌<◌};
 
-use exact_num::{Exact128, Steps};
+use exact_num::{Arith, Exact128, Steps};
 use input_core::{FileShelf, OutSink};
+use progress::Watched;
 use rooms_cmd::{NoWords, exit_status};
 use std::env;
+use std::io::IsTerminal;
 use std::marker::Brand;
 use std::process::ExitCode;
 use std::sync::ledger::{Blank, Ledger};
@@ -15,23 +17,34 @@ fn main(rt: HostRuntime) -> ExitCode {
     ExitCode::from(number::<Brand>(&rt, Blank::new(1)))
 }
 
-/// The exit status. The steps of the search are counted in a ledger that nothing was written in.
+/// The exit status. The steps of the search are counted in a ledger that nothing was written in. Where a person
+/// waits, the arithmetic shows on standard error that it works.
 fn number<L: Ledger>(rt: &HostRuntime, blank: Blank) -> u8
     requires name { blank.name ≡ L.name }
     requires parts { blank.parts ≡ L.parts }
     requires some { 0 < blank.parts }
 {
+    let mut steps: Steps<L> = Steps::new(blank);
+    if !rt.stderr().is_terminal() {
+        return run(rt, &mut Exact128::new(), &mut steps);
+    }
+    let mut arith = Watched::new(rt);
+    let number = run(rt, &mut arith, &mut steps);
+    arith.finish();
+    number
+}
+
+/// The exit status of a run on the real files and the standard output.
+fn run<A: Arith, L: Ledger>(rt: &HostRuntime, arith: &mut A, steps: &mut Steps<L>) -> u8 {
     let mut shelf = FileShelf::new(rt);
     let mut out = OutSink::new(rt);
-    let mut arith = Exact128::new();
-    let mut steps: Steps<L> = Steps::new(blank);
     exit_status(
         rt.alloc(),
         arguments(rt),
         &mut shelf,
         &mut out,
-        &mut arith,
-        &mut steps,
+        arith,
+        steps,
     )
 }
 
