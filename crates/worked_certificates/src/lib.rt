@@ -5,3 +5,5 @@
 mod forms;
 #[cfg(test)]
 mod pieces;
+#[cfg(test)]
+mod readers;

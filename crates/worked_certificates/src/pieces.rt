@@ -7,15 +7,15 @@ use std::test::Fail;
 use worked_shapes::{Shape, one_meeting, problem_of};
 
 /// Six levels that close at their root, the last by the leaf of the fourth.
-const SHARED: &[u8] =
+pub const SHARED: &[u8] =
     b"rooms-certificate 2\nmodel 1 2\nchoice 1 1\nvalues 1 10 500 0 -1 0\ncuts 0\nlevel 1\nleaf 1 1 b0 1\nlevel 2\nleaf 1 1 b0 10\nlevel 3\nleaf 1 1 b0 500\nlevel 4\nleaf 1 0\nlevel 5\nleaf 1 1 l1 -1\nlevel 6\nsame 3\nend 6\n";
 
 /// The same in version 1, where the last leaf stands again.
-const PLAIN: &[u8] =
+pub const PLAIN: &[u8] =
     b"rooms-certificate 1\nmodel 1 2\nchoice 1 1\nvalues 1 10 500 0 -1 0\ncuts 0\nlevel 1\nleaf 1 1 b0 1\nlevel 2\nleaf 1 1 b0 10\nlevel 3\nleaf 1 1 b0 500\nlevel 4\nleaf 1 0\nlevel 5\nleaf 1 1 l1 -1\nlevel 6\nleaf 1 0\nend 6\n";
 
 /// The same with a tree in the first level that branches on a pattern twice.
-const BRANCHED: &[u8] =
+pub const BRANCHED: &[u8] =
     b"rooms-certificate 1\nmodel 1 2\nchoice 1 1\nvalues 1 10 500 0 -1 0\ncuts 0\nlevel 1\nbranch 0\nbranch 0\nleaf 1 0\nleaf 1 0\nleaf 1 1 b0 1\nlevel 2\nleaf 1 1 b0 10\nlevel 3\nleaf 1 1 b0 500\nlevel 4\nleaf 1 0\nlevel 5\nleaf 1 1 l1 -1\nlevel 6\nleaf 1 0\nend 6\n";
 
 /// A pattern is branched on twice.
