@@ -108,7 +108,9 @@ fn draft_of(
     match solved {
         Solved::Optimal(certificate) => optimal(alloc, instance, times, certificate),
         Solved::Open {
-            level, certificate, ..
+            level,
+            certificate,
+            ..
         } => open(alloc, instance, times, *level, certificate),
     }
 }

@@ -18,7 +18,7 @@ returns-in-Ok-clause-answers g c =
     let given = subst (λ f. AreGiven s.told f l.instance l.times l.measures) (names_are c.args.names.now _ _ _ c.as_str.ensures c.as_str-2.ensures c.as_str-3.ensures) c.in-Ok.ensures.given in
     answer_weaker (FileExplains (g.S.Shelf.tells mid) (g.S.Shelf.held mid name) (g.S.Shelf.piece_faults mid) (g.S.Shelf.piece_faults c.check_file.new.shelf) l.model name) (CheckExplains s c.args.names.now name) c.check_file.result
     (λ text status h. check_answer g.S.Shelf.tells g.S.Shelf.held g.S.Shelf.piece_faults g.S.Shelf.put_faults c.args.shelf.now mid c.check_file.new.shelf c.args.names.now name l.instance l.times l.measures l.model text status
-        c.in-Ok.ensures.only given c.in-Ok.ensures.model.1 c.in-Ok.ensures.model.0 h)
+    c.in-Ok.ensures.only given c.in-Ok.ensures.model.1 c.in-Ok.ensures.model.0 h)
     c.check_file.ensures.answers
 
 pub returns-in-Ok-clause-reads : goal.returns-in-Ok-clause-reads

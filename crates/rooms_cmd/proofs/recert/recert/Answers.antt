@@ -19,7 +19,7 @@ returns-in-Ok-clause-answers g c =
     answer_weaker (RecertFileExplains (shelved g.S.Shelf.tells g.S.Shelf.held g.S.Shelf.piece_faults g.S.Shelf.put_faults mid new) l.model c.args.certificate.now c.args.new.now)
     (RecertExplains s c.args.names.now c.args.certificate.now c.args.new.now) c.recert_file.result
     (λ text status h. recert_answer g.S.Shelf.tells g.S.Shelf.held g.S.Shelf.piece_faults g.S.Shelf.put_faults old mid new c.args.names.now c.args.certificate.now c.args.new.now l.instance l.times l.measures l.model text status
-        c.in-Ok.ensures.only given c.in-Ok.ensures.model.1 c.in-Ok.ensures.model.0 h)
+    c.in-Ok.ensures.only given c.in-Ok.ensures.model.1 c.in-Ok.ensures.model.0 h)
     c.recert_file.ensures.answers
 
 pub returns-in-Ok-clause-keeps : goal.returns-in-Ok-clause-keeps

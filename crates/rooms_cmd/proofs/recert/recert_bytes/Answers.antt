@@ -14,5 +14,5 @@ returns-in_ok-shared_draft-in-Verified-clause-answers g c =
     let d = c.in_ok-shared_draft-in-Verified.field-0 in
     answer_weaker (PutExplains s d c.args.new.now) (BytesExplain s c.args.model.now c.args.bytes.now c.args.new.now) c.put.result
     (λ text status h. shared_answer s c.args.model.now c.args.bytes.now c.args.new.now text status d c.in_ok-levels.field-0 c.in-Verified.levels c.in-Verified.values
-        c.share_laws.ensures.one c.share_laws.ensures.writable c.share_laws.ensures.first c.in-Verified.is c.in_ok-levels.ensures.exact c.in_ok-levels.ensures.means c.in_ok-shared_draft-in-Verified.ensures h)
+    c.share_laws.ensures.one c.share_laws.ensures.writable c.share_laws.ensures.first c.in-Verified.is c.in_ok-levels.ensures.exact c.in_ok-levels.ensures.means c.in_ok-shared_draft-in-Verified.ensures h)
     c.put.ensures.answers

@@ -22,7 +22,7 @@ returns-in-Ok-clause-answers g c =
     answer_weaker (FoundExplains (shelved g.S.Shelf.tells g.S.Shelf.held g.S.Shelf.piece_faults g.S.Shelf.put_faults mid new) w l.model l.instance l.times c.args.budget c.args.certificate.now)
     (SolveExplains s w c.args.names.now c.args.certificate.now c.args.budget) c.solve_loaded.result
     (λ text status h. solve_answer g.S.Shelf.tells g.S.Shelf.held g.S.Shelf.piece_faults g.S.Shelf.put_faults old mid new w c.args.names.now c.args.certificate.now c.args.budget l.instance l.times l.measures l.model text status
-        c.in-Ok.ensures.only given c.in-Ok.ensures.model.1 c.in-Ok.ensures.model.0 h)
+    c.in-Ok.ensures.only given c.in-Ok.ensures.model.1 c.in-Ok.ensures.model.0 h)
     c.solve_loaded.ensures.answers
 
 pub returns-in-Ok-clause-keeps : goal.returns-in-Ok-clause-keeps
