@@ -22,7 +22,8 @@ use Rattle.cert_text.specs.Grammar.{blocks, open_block, is_writable}
 use Rattle.cert_text.specs.Text.{IsText, certificate_of}
 use Rattle.cert_text.proofs.TextLaws.{writable_is}
 use Rattle.cert_checker.specs.declared.verdict.Verdict.{Verdict}
-use Rattle.cert_checker.specs.declared.verdict.Verdict.TheVariants.{Verified}
+use Rattle.cert_checker.specs.declared.verdict.Verdict.TheVariants.{Verified, Not}
+use Rattle.cert_checker.specs.Files.{IsMeantVerdict}
 use Rattle.cert_checker.specs.Verdicts.{verdict_of, IsProof, Means}
 use Rattle.run_core.specs.Calls.{Stops, NoReadFailed}
 use Rattle.run_core.specs.Files.{IsUnread}
@@ -37,7 +38,7 @@ use Rattle.tool_core.specs.Inputs.{AreGiven, HasModel}
 use Rattle.tool_core.specs.declared.inputs.Names.{Names}
 use Rattle.rooms_cmd.specs.Answers.{verified_text, long_certificate_text}
 use Rattle.rooms_cmd.specs.Checking.{certificate_limit, IsLongCertificate, CheckExplains, SaysVerified}
-use Rattle.rooms_cmd.specs.Steps.{IsStopOfRefusal, VerdictExplains, OfWhole, FileExplains}
+use Rattle.rooms_cmd.specs.Steps.{IsStopOfRefusal, HasSmallValues, IsTold, OfWhole, FileExplains}
 
 -- ---- a certificate that is not read
 
@@ -58,17 +59,25 @@ refusal_stopping tells held before now name refusals.Memory stops.Memory explain
 
 -- ---- `check`
 
--- the verdict on the bytes is that on the file
-pub verdict_of_file : (tells : Bool) (held : Option (List ℕ)) (before now : ℕ) (p : Facts) (name bytes text : List ℕ) (status : ToolStatus) → IsWhole tells held certificate_limit bytes → VerdictExplains p bytes text status
+-- a verdict that is told is that on the file
+pub verdict_of_file : (tells : Bool) (held : Option (List ℕ)) (before now : ℕ) (p : Facts) (name : List ℕ) (v : Verdict) → IsMeantVerdict tells held p v → (text : List ℕ) (status : ToolStatus) → IsTold v text status
     → FileExplains tells held before now p name text status
-verdict_of_file tells held before now p name bytes text Done whole h = record { bytes = bytes; whole = whole; says_so = h }
-verdict_of_file tells held before now p name bytes text No whole h = record { bytes = bytes; whole = whole; says_so = h }
-verdict_of_file tells held before now p name bytes text Usage whole h = absurd h
-verdict_of_file tells held before now p name bytes text Open whole h = absurd h
-verdict_of_file tells held before now p name bytes text BadInput whole h = absurd h
-verdict_of_file tells held before now p name bytes text ReadFault whole h = absurd h
-verdict_of_file tells held before now p name bytes text WriteFault whole h = absurd h
-verdict_of_file tells held before now p name bytes text Memory whole h = absurd h
+verdict_of_file tells held before now p name (Verified levels values) m text Done is = record { bytes = m.bytes; whole = m.whole; says_so = record { levels = levels; values = values; verdict = sym m.exact; proof = m.means; is = is } }
+verdict_of_file tells held before now p name (Not line reason) m text No is = record { bytes = m.bytes; whole = m.whole; says_so = record { line = line; reason = reason; verdict = sym m.exact; no_proof = m.means.0; is = is } }
+verdict_of_file tells held before now p name (Verified levels values) m text No is = absurd is
+verdict_of_file tells held before now p name (Verified levels values) m text Usage is = absurd is
+verdict_of_file tells held before now p name (Verified levels values) m text Open is = absurd is
+verdict_of_file tells held before now p name (Verified levels values) m text BadInput is = absurd is
+verdict_of_file tells held before now p name (Verified levels values) m text ReadFault is = absurd is
+verdict_of_file tells held before now p name (Verified levels values) m text WriteFault is = absurd is
+verdict_of_file tells held before now p name (Verified levels values) m text Memory is = absurd is
+verdict_of_file tells held before now p name (Not line reason) m text Done is = absurd is
+verdict_of_file tells held before now p name (Not line reason) m text Usage is = absurd is
+verdict_of_file tells held before now p name (Not line reason) m text Open is = absurd is
+verdict_of_file tells held before now p name (Not line reason) m text BadInput is = absurd is
+verdict_of_file tells held before now p name (Not line reason) m text ReadFault is = absurd is
+verdict_of_file tells held before now p name (Not line reason) m text WriteFault is = absurd is
+verdict_of_file tells held before now p name (Not line reason) m text Memory is = absurd is
 
 -- what is said of the file after the three files were read is said of it before
 pub check_answer : {S : Type 0} (tells : S → Bool) (held : S → Held) (piece_faults put_faults : S → ℕ) (a b c : S) (f : Names) (name : List ℕ) (i : Instance) (t : Times) (m : Measures) (p : Facts) (text : List ℕ) (status : ToolStatus)
@@ -118,6 +127,11 @@ pub values_within : (f : Facts) (bytes : List ℕ) (v : Verdict) (levels : ℕ) 
 values_within f bytes v levels values e means =
     let proof : IsProof f bytes levels values = subst (Means f bytes) e means in
     subst (AllByRecursion (IsWithin (pos 1000000000000))) proof.values_are (small_in proof.certificate proof.text.bounded)
+
+-- the values of a verdict that means something are small
+pub small_verdict : (f : Facts) (bytes : List ℕ) (v : Verdict) → Means f bytes v → HasSmallValues v
+small_verdict f bytes (Verified levels values) means = values_within f bytes (Verified levels values) levels values refl means
+small_verdict f bytes (Not line reason) means = tt
 
 pub says_verified : (f : Facts) (bytes text : List ℕ) (v : Verdict) (levels : ℕ) (values : List ℤ) → v ≡ Verified levels values → v ≡ verdict_of f (certificate_of bytes) → Means f bytes v → text ≡ verified_text levels values
     → SaysVerified f bytes text

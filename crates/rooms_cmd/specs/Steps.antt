@@ -1,10 +1,12 @@
 -- What the steps of the commands answer, once the three files are read.
-use Rattle.std.specs.Prelude.{ℕ, ℤ, ◌≡◌, ◌⊎◌, true, List, [], Bool, Option, Some, IsTrue}
+use Rattle.std.specs.Prelude.{ℕ, ℤ, pos, ◌≡◌, ◌⊎◌, true, List, [], Bool, Option, Some, IsTrue}
 use Rattle.input_core.specs.Causes.{Rose}
 use Rattle.input_core.specs.Reading.{IsWhole}
 use Rattle.input_core.specs.declared.read.ReadRefusal.{ReadRefusal}
 use Rattle.input_core.specs.declared.read.ReadRefusal.TheVariants as refusals
+use Rattle.std.specs.List.{AllByRecursion}
 use Rattle.problem_core.specs.Facts.{Facts}
+use Rattle.problem_core.specs.Kept.{IsWithin}
 use Rattle.problem_core.specs.Choice.{IsLegal}
 use Rattle.problem_core.specs.Measures.{measures}
 use Rattle.problem_core.specs.Faults.{first_fault}
@@ -17,6 +19,8 @@ use Rattle.cert_text.specs.declared.lines.Certificate.{Certificate}
 use Rattle.cert_text.specs.Grammar.{is_writable}
 use Rattle.cert_text.specs.Text.{IsText}
 use Rattle.cert_text.specs.Sharing.{share, plain}
+use Rattle.cert_checker.specs.declared.verdict.Verdict.{Verdict}
+use Rattle.cert_checker.specs.declared.verdict.Verdict.TheVariants.{Verified, Not}
 use Rattle.lex_driver.specs.Solving.{Solves}
 use Rattle.lex_driver.specs.declared.solve.Solved.{Solved}
 use Rattle.lex_driver.specs.declared.solve.Solved.TheVariants.{Optimal, Open}
@@ -28,7 +32,7 @@ use Rattle.run_core.specs.declared.answer.Stop.TheVariants as stops
 use Rattle.run_core.specs.declared.status.ToolStatus.{ToolStatus}
 use Rattle.run_core.specs.declared.status.ToolStatus.TheVariants as statuses
 use Rattle.reports.specs.Lines.{AreNamed, value_lines, room_fault_text}
-use Rattle.rooms_cmd.specs.Answers.{answer_text, optimal_line, open_line, verified_text, long_certificate_text}
+use Rattle.rooms_cmd.specs.Answers.{answer_text, optimal_line, open_line, verified_text, not_verified_text, long_certificate_text}
 use Rattle.rooms_cmd.specs.Checking.{certificate_limit, IsLongCertificate, SaysVerified, SaysNot, SaysShared}
 use Rattle.rooms_cmd.specs.Work.{Work, begins}
 use Rattle.rooms_cmd.specs.declared.putting.Draft.{Draft}
@@ -98,11 +102,16 @@ IsStopOfRefusal name (refusals.TooLong taken) stops.Memory = Unit {0}
 IsStopOfRefusal name refusals.Memory stops.Memory = Unit {0}
 IsStopOfRefusal name refusals.Memory stop = ⊥
 
--- the verdict on the bytes is told
-abbrev pub VerdictExplains : Facts → List ℕ → List ℕ → ToolStatus → Type 0
-VerdictExplains p bytes text statuses.Done = SaysVerified p bytes text
-VerdictExplains p bytes text statuses.No = SaysNot p bytes text
-VerdictExplains p bytes text status = ⊥
+-- the values of a verdict are small
+abbrev pub HasSmallValues : Verdict → Type 0
+HasSmallValues (Verified levels values) = AllByRecursion (IsWithin (pos 1000000000000)) values
+HasSmallValues (Not line reason) = Unit {0}
+
+-- the text and the status of a verdict
+abbrev pub IsTold : Verdict → List ℕ → ToolStatus → Type 0
+IsTold (Verified levels values) text statuses.Done = text ≡ verified_text levels values
+IsTold (Not line reason) text statuses.No = text ≡ not_verified_text line reason
+IsTold verdict text status = ⊥
 
 -- of all bytes of the file something is said
 pub record OfWhole (tells : Bool) (held : Option (List ℕ)) (says : List ℕ → Type 0) : Type 0 where

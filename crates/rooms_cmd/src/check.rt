@@ -4,11 +4,11 @@ ghost use Rattle.run_core.specs.Calls.{NoReadFailed};
 ghost use Rattle.run_core.specs.Outside.{shelved};
 ghost use Rattle.rooms_cmd.specs.Run.{AnswerIs, StatusIs};
 ghost use Rattle.rooms_cmd.specs.Checking.{CheckExplains};
-ghost use Rattle.rooms_cmd.specs.Steps.{IsStopOfRefusal, FileExplains, VerdictExplains};
+ghost use Rattle.rooms_cmd.specs.Steps.{IsStopOfRefusal, FileExplains, HasSmallValues, IsTold};
 
 use crate::answers::{long_certificate, not_verified, verified};
-use cert_checker::{Verdict, check as verdict_on};
-use input_core::{ReadRefusal, Shelf, read_all};
+use cert_checker::{Verdict, check_file as verdict_on_file};
+use input_core::{ReadRefusal, Shelf};
 use packing_model::Model;
 use run_core::{Answer, FileFault, Stop, ToolStatus as Status};
 use std::alloc::Global;
@@ -40,7 +40,7 @@ pub fn check<S: Shelf>(
     }
 }
 
-/// The verdict on the certificate that a file holds.
+/// The verdict on the certificate that a file holds, which is read in pieces.
 fn check_file<S: Shelf>(
     alloc: Global,
     model: &Model,
@@ -51,17 +51,18 @@ fn check_file<S: Shelf>(
     ensures reads { StatusIs (NoReadFailed (S.piece_faults shelf.old) (S.piece_faults shelf.new)) result }
     ensures only { OnlyReads S.tells S.held S.piece_faults S.put_faults shelf.old shelf.new }
 {
-    match read_all(alloc, shelf, certificate, CERTIFICATE_LIMIT) {
-        Ok(bytes) => check_bytes(alloc, model, bytes.as_slice()),
+    match verdict_on_file(alloc, shelf, certificate, model) {
+        Ok(verdict) => told(alloc, verdict),
         Err(refusal) => Err(stop_of_refusal(alloc, certificate, refusal)),
     }
 }
 
-/// The verdict on the bytes of a certificate.
-fn check_bytes(alloc: Global, model: &Model, bytes: &[u8]) -> Result<Answer, Stop>
-    ensures { AnswerIs (VerdictExplains model.now bytes.now) result }
+/// What is answered with a verdict.
+fn told(alloc: Global, verdict: Verdict) -> Result<Answer, Stop>
+    requires { HasSmallValues verdict }
+    ensures { AnswerIs (IsTold verdict) result }
 {
-    match verdict_on(alloc, model, bytes)? {
+    match verdict {
         Verdict::Verified { levels, values } => Ok(Answer {
             status: Status::Done,
             text: verified(alloc, levels, &values)?,
