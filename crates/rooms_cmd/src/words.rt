@@ -17,7 +17,10 @@ pub enum Command {
         budget: u64,
     },
     /// Check the certificate of this name.
-    Check { names: Names, certificate: Text },
+    Check {
+        names: Names,
+        certificate: Text,
+    },
     /// Check the certificate of this name, and put its shared form under the new one.
     Recert {
         names: Names,
@@ -25,7 +28,9 @@ pub enum Command {
         new: Text,
     },
     /// Measure the rooms that the times give.
-    Measure { names: Names },
+    Measure {
+        names: Names,
+    },
 }
 
 /// The branches that `solve` may make where the words don't say it.
