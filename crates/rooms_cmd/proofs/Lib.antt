@@ -1,5 +1,10 @@
+pub mod AnswerLaws
+pub mod CheckLaws
 pub mod ExitLaws
 pub mod ExpectedLaws
+pub mod MeasureLaws
 pub mod QuietLaws
+pub mod RecertLaws
 pub mod RunLaws
 pub mod SameLaws
+pub mod SolveLaws

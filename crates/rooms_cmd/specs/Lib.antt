@@ -5,6 +5,7 @@ pub mod Unread
 pub mod Solving
 pub mod Checking
 pub mod Measuring
+pub mod Steps
 pub mod Run
 pub mod Expected
 pub mod Exits

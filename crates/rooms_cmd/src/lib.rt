@@ -1,10 +1,12 @@
 //! The commands of the program: from words and files to a status and a printed text.
 #![tactic(auto)]
 
+mod answers;
 mod check;
 mod command;
 mod exit;
 mod measure;
+mod putting;
 mod recert;
 mod solve;
 mod texts;
