@@ -1,7 +1,12 @@
+ghost use Rattle.std.specs.Prelude.{◌≡◌, ◌<◌};
+
+use exact_num::{Refusing, Steps};
 use input_core::{MemShelf, MemSink};
 use rooms_cmd::{Status, run};
 use std::alloc::{AllocError, Global};
+use std::marker::Brand;
 use std::process::Abort;
+use std::sync::ledger::{Blank, Ledger};
 use std::test::Fail;
 
 const HEADER: &[u8] =
@@ -42,7 +47,23 @@ fn push_ten(text: &mut Vec<u8>, first: u8, second: u8) -> Result<(), AllocError>
     Ok(())
 }
 
-/// That `solve` prints this of the files, and that they are bad input.
+/// Runs the words over no numbers.
+fn counted<L: Ledger>(
+    alloc: Global,
+    words: &[String],
+    shelf: &mut MemShelf,
+    sink: &mut MemSink,
+    blank: Blank,
+) -> Status
+    requires name { blank.name ≡ L.name }
+    requires parts { blank.parts ≡ L.parts }
+    requires some { 0 < blank.parts }
+{
+    let mut steps: Steps<L> = Steps::new(blank);
+    run(alloc, words, shelf, sink, &mut Refusing::new(), &mut steps)
+}
+
+/// That `measure` prints this of the files and of empty measures, and that they are bad input.
 fn judge_refusal(
     rt: &impl Abort,
     alloc: Global,
@@ -53,15 +74,17 @@ fn judge_refusal(
     let mut files = Vec::new(alloc);
     files.push((String::from_str(alloc, "i")?, instance))?;
     files.push((String::from_str(alloc, "t")?, times))?;
+    files.push((String::from_str(alloc, "m")?, Vec::new(alloc)))?;
     let mut words = Vec::new(alloc);
-    for word in ["solve", "i", "t"] {
+    for word in ["measure", "i", "t", "m"] {
         words.push(String::from_str(alloc, word)?)?;
     }
     let mut shelf = MemShelf::new(alloc, files, Vec::new(alloc));
     let mut sink = MemSink::new(alloc, Vec::new(alloc));
-    let status = run(alloc, words.as_slice(), &mut shelf, &mut sink);
+    let blank = Blank::new(1);
+    let status = counted::<Brand>(alloc, words.as_slice(), &mut shelf, &mut sink, blank);
     assert!(rt; sink.bytes() == printed);
-    assert!(rt; status == Status::BadInput);
+    assert!(rt; status.number() == 4);
     Ok(())
 }
 

@@ -189,12 +189,7 @@ fn print_line<R: Print>(alloc: Global, rt: &R, line: &str) -> Result<(), Stop> {
 }
 
 /// Prints the number of a status, and the bytes that came.
-fn print_answer<R: Print>(
-    alloc: Global,
-    rt: &R,
-    status: Status,
-    bytes: &[u8],
-) -> Result<(), Stop> {
+fn print_answer<R: Print>(alloc: Global, rt: &R, status: Status, bytes: &[u8]) -> Result<(), Stop> {
     let number = status.number();
     let head = format!(in alloc; "{number}\n")?;
     let mut out = OutSink::new(rt);
