@@ -1,0 +1,5 @@
+pub mod Escaped
+pub mod Style
+pub mod Lists
+pub mod Cells
+pub mod Page
