@@ -1,3 +1,4 @@
 pub mod ListLemmas
 pub mod TableLemmas
 pub mod PageLemmas
+pub mod RunLaws

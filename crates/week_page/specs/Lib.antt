@@ -3,3 +3,7 @@ pub mod Style
 pub mod Lists
 pub mod Cells
 pub mod Page
+pub mod Usage
+pub mod Run
+pub mod Expected
+pub mod Exits
