@@ -2,3 +2,4 @@ pub mod ListLemmas
 pub mod TableLemmas
 pub mod PageLemmas
 pub mod RunLaws
+pub mod MarkLemmas

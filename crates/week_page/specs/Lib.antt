@@ -7,3 +7,4 @@ pub mod Usage
 pub mod Run
 pub mod Expected
 pub mod Exits
+pub mod Markup

@@ -7,6 +7,7 @@ mod days;
 mod exit;
 mod groups;
 mod head;
+mod laws;
 mod meetings;
 mod names;
 mod page;
@@ -15,4 +16,5 @@ mod tables;
 
 pub use command::run_week;
 pub use exit::exit_status;
+pub use laws::page_laws;
 pub use page::week_page;
