@@ -1,7 +1,7 @@
 -- The marks of a page are those of its own text.
-use Rattle.std.proofs.Common.{ℕ, ◌≡◌, ◌<◌, ◌+◌, ◌-◌, arith, inl, inr, ◌||◌, refl, sym, ◌∙◌, ap, ap₂, zero, suc, List, [], ◌∷◌, ◌++◌, Bool, true, false, not, cond, length, map, get_or}
+use Rattle.std.proofs.Common.{ℕ, ◌≡◌, ◌+◌, ◌-◌, arith, inl, inr, ◌||◌, refl, sym, ◌∙◌, ap, ap₂, zero, suc, List, [], ◌∷◌, ◌++◌, Bool, true, false, not, cond, length, map, get_or}
 use Rattle.std.specs.Prelude.{◌==◌, nat_lt, codes, decimal}
-use Rattle.std.specs.List.{filter, flat_map, list_any, position_or_len}
+use Rattle.std.specs.List.{flat_map, list_any, position_or_len}
 use Rattle.std.proofs.lemmas.Bool.{cases_Bool, true≢false}
 use Rattle.std.proofs.lemmas.List.{length-map}
 use Rattle.ctt_reader.specs.Naming.{no_course, no_room}
@@ -14,7 +14,7 @@ use Rattle.week_page.specs.Escaped.{escaped, escaped_byte, is_mark}
 use Rattle.week_page.specs.Style.{style_text}
 use Rattle.week_page.specs.Lists.{each_below}
 use Rattle.week_page.specs.Cells.{in_cell, of_course, without_room}
-use Rattle.week_page.specs.Page.{course_at, room_at, no_curriculum, first_listing, colour, curriculum_name, curriculum_text, named_course, course_text, over_text, entry_text, clash_text, cell_text, room_head, row_text, period_text, day_head, day_text, unroomed_line, unroomed_text, room_text, meeting_text, course_row, courses_head, courses_text, title_text, before_title, head_text, page_of, page_text}
+use Rattle.week_page.specs.Page.{course_at, room_at, no_curriculum, first_listing, colour, curriculum_name, curriculum_text, named_course, course_text, over_text, entry_text, clash_text, cell_text, room_head, row_text, day_head, day_text, unroomed_line, unroomed_text, room_text, meeting_text, course_row, courses_head, courses_text, title_text, before_title, head_text, page_of}
 use Rattle.week_page.specs.Markup.{marks, nameless_course, nameless_room, nameless_curriculum, nameless, NamesHaveNoMarks, NamesAddNoMarks}
 
 -- ---- texts in pieces

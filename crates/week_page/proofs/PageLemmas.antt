@@ -1,11 +1,10 @@
 -- The page of tables is the page of their lines.
-use Rattle.std.proofs.Common.{ℕ, ◌≡◌, ◌<◌, refl, ◌∙◌, ap, ap₂, List, ◌++◌, Bool, true, length}
+use Rattle.std.proofs.Common.{ℕ, ◌≡◌, ◌<◌, ◌∙◌, ap, ap₂, List, ◌++◌, true, length}
 use Rattle.std.specs.List.{list_all, flat_map}
 use Rattle.ctt_reader.specs.Promised.{IsInstance}
 use Rattle.ctt_reader.specs.declared.instance.Instance.{Instance}
 use Rattle.timed_solution.specs.declared.times.Meeting.{Meeting}
 use Rattle.timed_solution.specs.Times.{is_meeting}
-use Rattle.week_page.specs.Lists.{each_below}
 use Rattle.week_page.specs.Cells.{in_cell, of_course, without_room, AreGroups, cell_in, group_in}
 use Rattle.std.specs.Prelude.{codes}
 use Rattle.week_page.specs.Page.{room_at, room_head, cell_text, row_text, day_head, day_text, unroomed_text, course_text, meeting_text, course_row, courses_head, courses_text, head_text, page_of, page_text, page_of_tables}

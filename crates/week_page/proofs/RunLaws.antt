@@ -1,7 +1,7 @@
 -- From the answers of the steps to the answer of the run; and an answer that is explained, in a run in which no
 -- call fails, is the expected one.
-use Rattle.std.proofs.Common.{ℕ, ◌≡◌, ◌⊎◌, inl, inr, ◌<◌, ◌≤◌, refl, sym, ◌∙◌, ap, subst, arith, List, [], ◌++◌, length, get_or, Bool, cond}
-use Rattle.std.specs.Prelude.{Option, Some, None, IsTrue, String}
+use Rattle.std.proofs.Common.{ℕ, ◌≡◌, ◌⊎◌, inl, inr, ◌<◌, ◌≤◌, sym, ◌∙◌, ap, subst, arith, List, [], length, get_or, cond}
+use Rattle.std.specs.Prelude.{IsTrue, String}
 use Rattle.std.specs.String.{string_bytes}
 use Rattle.std.specs.declared.alloc.Global.{Global}
 use Rattle.std.proofs.lemmas.Bool.{ne_eqb, eq-eqb}
@@ -14,12 +14,11 @@ use Rattle.ctt_reader.proofs.FieldsBackLemmas.{named-at}
 use Rattle.timed_solution.specs.declared.times.Times.{Times}
 use Rattle.timed_solution.specs.Times.{times_of}
 use Rattle.run_core.specs.Calls.{Stops}
-use Rattle.run_core.specs.Ends.{RunEnds, Grew, Prints, IsWriteFault, PrintEnds}
-use Rattle.run_core.specs.Expected.{words_of, Expected, of_file, of_text, IsSaid, AnswersExpected}
+use Rattle.run_core.specs.Ends.{RunEnds, IsWriteFault, PrintEnds}
+use Rattle.run_core.specs.Expected.{words_of, of_text, AnswersExpected}
 use Rattle.run_core.specs.Expected.Expected.{Says}
 use Rattle.run_core.specs.Files.{GivesInstance, GivesTimes, IsUnread, IsRefused, IsFaultyInstance, IsFaultyTimes}
 use Rattle.run_core.specs.Outside.{Held, Told, Shelved, Printed, IsQuiet}
-use Rattle.run_core.specs.Texts.{read_fault_text}
 use Rattle.run_core.specs.declared.answer.Stop.{Stop}
 use Rattle.run_core.specs.declared.status.ToolStatus.{ToolStatus}
 use Rattle.run_core.specs.declared.status.ToolStatus.TheVariants.{Done, No, Usage, Open, BadInput, ReadFault, WriteFault, Memory}
@@ -29,7 +28,7 @@ use Rattle.run_core.proofs.ExpectedLaws.{HasFault, of_unread, of_value, of_refus
 use Rattle.run_core.proofs.FileLaws.{told_before}
 use Rattle.week_page.specs.Page.{page_text}
 use Rattle.week_page.specs.Usage.{usage_text}
-use Rattle.week_page.specs.Run.{OfNames, IsUsage, IsShown, IsBadInput, IsReadFault, NamesExplain, Explains, IsStatus, GivesPage, TimesExplain}
+use Rattle.week_page.specs.Run.{OfNames, IsShown, IsBadInput, IsReadFault, NamesExplain, Explains, IsStatus, TimesExplain}
 use Rattle.week_page.specs.Expected.{of_lines, of_times, of_names, expected, IsAccepted}
 
 -- ---- the solution, after the instance was read

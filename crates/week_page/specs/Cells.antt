@@ -1,5 +1,5 @@
 -- Lines grouped by the cell of a day's table that they stand in, or by their course.
-use Rattle.std.specs.Prelude.{ℕ, ◌≡◌, ◌+◌, ◌*◌, ◌==◌, ◌&&◌, Bool, true, nat_lt, List, [], length, slice_index_or}
+use Rattle.std.specs.Prelude.{ℕ, ◌≡◌, ◌+◌, ◌*◌, ◌==◌, ◌&&◌, Bool, nat_lt, List, [], length, slice_index_or}
 use Rattle.std.specs.List.{filter, list_all}
 use Rattle.ctt_reader.specs.declared.instance.Instance.{Instance}
 use Rattle.timed_solution.specs.declared.times.Meeting.{Meeting}

@@ -1,5 +1,5 @@
 -- No name adds a tag to the page.
-use Rattle.std.specs.Prelude.{ℕ, ◌≡◌, Bool, false, List, [], map}
+use Rattle.std.specs.Prelude.{ℕ, ◌≡◌, false, List, [], map}
 use Rattle.std.specs.List.{filter, list_any}
 use Rattle.ctt_reader.specs.declared.instance.Instance.{Instance}
 use Rattle.ctt_reader.specs.declared.instance.Course.{Course}

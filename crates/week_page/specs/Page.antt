@@ -1,5 +1,5 @@
 -- The page: who is where.
-use Rattle.std.specs.Prelude.{ℕ, ◌≡◌, ◌<◌, ◌≤◌, ◌+◌, ◌-◌, ◌*◌, ◌%◌, ◌==◌, nat_lt, if◌then◌else◌, Bool, true, List, [], ◌++◌, length, codes, decimal, slice_index_or}
+use Rattle.std.specs.Prelude.{ℕ, ◌≡◌, ◌<◌, ◌-◌, ◌*◌, ◌%◌, ◌==◌, nat_lt, if◌then◌else◌, true, List, [], ◌++◌, length, codes, decimal, slice_index_or}
 use Rattle.std.specs.List.{flat_map, list_any, position_or_len}
 use Rattle.ctt_reader.specs.declared.instance.Instance.{Instance}
 use Rattle.ctt_reader.specs.declared.instance.Course.{Course}

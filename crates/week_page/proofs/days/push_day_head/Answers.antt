@@ -1,9 +1,6 @@
-use Rattle.std.proofs.Common.{◌≡◌, ◌++◌, ◌∙◌, ap, List, [], ℕ, length}
+use Rattle.std.proofs.Common.{◌≡◌, ◌++◌, List, ℕ}
 use Rattle.std.specs.Prelude.{codes, decimal}
-use Rattle.std.specs.List.{flat_map}
-use Rattle.week_page.specs.Escaped.{escaped}
 use Rattle.week_page.specs.Lists.{each_below}
-use Rattle.week_page.specs.Cells.{cell_in, group_in}
 use Rattle.week_page.specs.Page.{day_head, period_text}
 use Rattle.week_page.proofs.ListLemmas.{more}
 use Rattle.week_page.proofs.days.push_day_head.Goals as goal

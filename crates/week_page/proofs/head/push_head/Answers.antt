@@ -1,6 +1,3 @@
-use Rattle.std.proofs.Common.{◌≡◌, ◌++◌, ◌∙◌, ap, List, ℕ}
-use Rattle.std.specs.Prelude.{codes, decimal}
-use Rattle.week_page.specs.Escaped.{escaped}
 use Rattle.week_page.specs.Page.{head_text}
 use Rattle.week_page.proofs.ListLemmas.{more}
 use Rattle.week_page.proofs.head.push_head.Goals as goal

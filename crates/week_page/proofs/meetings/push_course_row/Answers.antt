@@ -1,9 +1,7 @@
-use Rattle.std.proofs.Common.{◌≡◌, ◌++◌, ◌∙◌, ap, List, [], ℕ, length}
-use Rattle.std.specs.Prelude.{codes, decimal}
+use Rattle.std.proofs.Common.{◌≡◌, ◌++◌, List, ℕ}
+use Rattle.std.specs.Prelude.{codes}
 use Rattle.std.specs.List.{flat_map}
-use Rattle.week_page.specs.Escaped.{escaped}
-use Rattle.week_page.specs.Lists.{each_below}
-use Rattle.week_page.specs.Cells.{cell_in, group_in}
+use Rattle.week_page.specs.Cells.{group_in}
 use Rattle.week_page.specs.Page.{course_row, course_text, meeting_text}
 use Rattle.week_page.proofs.ListLemmas.{more}
 use Rattle.week_page.proofs.meetings.push_course_row.Goals as goal

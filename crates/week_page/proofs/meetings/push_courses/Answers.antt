@@ -1,9 +1,7 @@
-use Rattle.std.proofs.Common.{◌≡◌, ◌++◌, ◌∙◌, ap, List, [], ℕ, length}
-use Rattle.std.specs.Prelude.{codes, decimal}
-use Rattle.std.specs.List.{flat_map}
-use Rattle.week_page.specs.Escaped.{escaped}
+use Rattle.std.proofs.Common.{◌≡◌, ◌++◌, List, ℕ, length}
+use Rattle.std.specs.Prelude.{codes}
 use Rattle.week_page.specs.Lists.{each_below}
-use Rattle.week_page.specs.Cells.{cell_in, group_in}
+use Rattle.week_page.specs.Cells.{group_in}
 use Rattle.week_page.specs.Page.{courses_text, courses_head, course_row}
 use Rattle.week_page.proofs.ListLemmas.{more}
 use Rattle.week_page.proofs.meetings.push_courses.Goals as goal

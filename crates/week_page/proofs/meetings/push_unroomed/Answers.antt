@@ -1,9 +1,6 @@
-use Rattle.std.proofs.Common.{◌≡◌, ◌++◌, ◌∙◌, ap, List, [], ℕ, length}
+use Rattle.std.proofs.Common.{◌≡◌, ◌++◌, List, ℕ, length}
 use Rattle.std.specs.Prelude.{codes, decimal}
 use Rattle.std.specs.List.{flat_map}
-use Rattle.week_page.specs.Escaped.{escaped}
-use Rattle.week_page.specs.Lists.{each_below}
-use Rattle.week_page.specs.Cells.{cell_in, group_in}
 use Rattle.week_page.specs.Page.{unroomed_text, unroomed_line}
 use Rattle.week_page.proofs.ListLemmas.{more}
 use Rattle.week_page.proofs.meetings.push_unroomed.Goals as goal

@@ -1,7 +1,5 @@
-use Rattle.std.proofs.Common.{◌≡◌, ◌++◌, ◌∙◌, ap, List, [], ℕ, length}
-use Rattle.std.specs.Prelude.{codes, decimal}
-use Rattle.std.specs.List.{flat_map}
-use Rattle.week_page.specs.Escaped.{escaped}
+use Rattle.std.proofs.Common.{◌≡◌, ◌++◌, ◌∙◌, ap, List, [], ℕ}
+use Rattle.std.specs.Prelude.{codes}
 use Rattle.week_page.specs.Lists.{each_below}
 use Rattle.week_page.specs.Cells.{cell_in, group_in}
 use Rattle.week_page.specs.Page.{page_of, head_text, day_text, unroomed_text, courses_text}

@@ -1,4 +1,4 @@
-use Rattle.std.proofs.Common.{◌≡◌, ◌∙◌, ap, subst, List}
+use Rattle.std.proofs.Common.{◌∙◌, ap, subst, List}
 use Rattle.std.proofs.lemmas.Result.{IfOk-weaker}
 use Rattle.timed_solution.specs.declared.times.Meeting.{Meeting}
 use Rattle.week_page.specs.Cells.{without_room, AreGroups}
