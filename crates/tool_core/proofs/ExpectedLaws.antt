@@ -1,8 +1,7 @@
 -- What a run in which no call fails answers of three files: from what they give, and from why they give nothing.
 use Rattle.std.proofs.Common.{ℕ, ◌≡◌, zero, suc, inl, inr, sym, ◌∙◌, ap, List}
-use Rattle.std.specs.Prelude.{None, Some, IsTrue}
+use Rattle.std.specs.Prelude.{IsTrue}
 use Rattle.input_core.specs.Causes.{Rose}
-use Rattle.room_model.specs.ProblemOf.{problem_of}
 use Rattle.room_model.specs.Long.{long_fault}
 use Rattle.ctt_reader.specs.Grammar.{ctt_of}
 use Rattle.ctt_reader.specs.declared.instance.Instance.{Instance}
@@ -12,7 +11,7 @@ use Rattle.measure_file.specs.Grammar.{measures_of}
 use Rattle.measure_file.specs.declared.measures.Measures.{Measures}
 use Rattle.run_core.specs.Outside.{Told}
 use Rattle.run_core.specs.Texts.{read_fault_text}
-use Rattle.run_core.specs.Files.{GivesInstance, GivesTimes, IsFaultyInstance, IsFaultyTimes, IsRefused}
+use Rattle.run_core.specs.Files.{GivesInstance, GivesTimes, IsFaultyInstance, IsFaultyTimes}
 use Rattle.run_core.specs.Expected.Expected.{Says}
 use Rattle.run_core.specs.declared.status.ToolStatus.TheVariants.{BadInput, ReadFault}
 use Rattle.run_core.proofs.ExpectedLaws.{of_unread, of_value, of_refused}

@@ -1,22 +1,21 @@
 -- Why three files give nothing, from why each step gives nothing; and over what the shelf told before.
-use Rattle.std.proofs.Common.{ℕ, ◌≡◌, ◌≤◌, zero, suc, inl, inr, refl, sym, ◌∙◌, ap, ap₂, subst, List, Bool}
-use Rattle.std.specs.Prelude.{Option, None, Some, Result, Ok, Err, IfErr, IsErrAnd}
+use Rattle.std.proofs.Common.{ℕ, ◌≡◌, ◌≤◌, zero, suc, inl, inr, refl, sym, ◌∙◌, ap₂, subst, List, Bool}
+use Rattle.std.specs.Prelude.{None, Some, Result, Ok, Err, IfErr, IsErrAnd}
 use Rattle.std.proofs.Math.Path.{fun_ext}
 use Rattle.problem_core.specs.Facts.{Facts}
 use Rattle.ctt_reader.specs.declared.instance.Instance.{Instance}
 use Rattle.timed_solution.specs.declared.times.Times.{Times}
 use Rattle.measure_file.specs.declared.measures.Measures.{Measures}
-use Rattle.room_model.specs.ProblemOf.{problem_of}
 use Rattle.packing_model.specs.Built.{model_limit}
 use Rattle.run_core.specs.Outside.{Told, Held}
-use Rattle.run_core.specs.Files.{GivesInstance, GivesTimes, IsFaultyInstance, IsFaultyTimes, IsUnread, IsRefused, FileFails, NoReadOfFileFailed}
+use Rattle.run_core.specs.Files.{GivesInstance, GivesTimes, IsFaultyInstance, IsFaultyTimes, FileFails, NoReadOfFileFailed}
 use Rattle.run_core.specs.declared.file.FileFault.{FileFault}
 use Rattle.run_core.specs.declared.file.FileFault.TheVariants as files
 use Rattle.run_core.proofs.CallLaws.{unread_earlier}
 use Rattle.tool_core.specs.declared.inputs.Names.{Names}
 use Rattle.tool_core.specs.declared.inputs.LoadFault.{LoadFault}
 use Rattle.tool_core.specs.declared.inputs.LoadFault.TheVariants as faults
-use Rattle.tool_core.specs.Inputs.{names, GivesMeasures, IsFaultyMeasures, AreGiven, HasProblem, HasModel, IsProblem, IsModel, IsUnreadFile, AreRefused, AreRefusedForModel, LoadFails, NoReadOfLoadFailed, ProblemFails, ModelFails, fault_in}
+use Rattle.tool_core.specs.Inputs.{names, IsFaultyMeasures, AreGiven, IsProblem, IsModel, IsUnreadFile, AreRefused, AreRefusedForModel, LoadFails, NoReadOfLoadFailed, ProblemFails, ModelFails, fault_in}
 
 -- names that are put together from their parts
 pub names_are : (f : Names) → names f.instance f.times f.measures ≡ f
@@ -58,9 +57,10 @@ pub measures_failed : (o : Told) (f : Names) (i : Instance) (t : Times) (before 
 measures_failed o f i t before now fault answered is gives_i gives_t h = subst (LoadFails o f before now (AreRefused o f)) (sym is) (measures_fails o f i t before now fault gives_i gives_t h)
 
 -- what the exit of a `?` returns
-pub answered : {T : Type 0} (r : Result T LoadFault) (e : LoadFault) (P : LoadFault → Type 0) → IsErrAnd r (λ y. y ≡ e) → P e → IfErr r P
-answered (Ok x) e P h p = tt
-answered (Err y) e P h p = subst P (sym h) p
+pub answered : {T : Type 0} (o : Told) (f : Names) (before now : ℕ) (refused : List ℕ → Type 0) (r : Result T LoadFault) (e : LoadFault) → IsErrAnd r (λ y. y ≡ e)
+    → LoadFails o f before now refused e → IfErr r (LoadFails o f before now refused)
+answered o f before now refused (Ok x) e h fails = tt
+answered o f before now refused (Err y) e h fails = subst (LoadFails o f before now refused) (sym h) fails
 
 pub problem_fails : (o : Told) (f : Names) (i : Instance) (t : Times) (m : Measures) (before now : ℕ) (fault : LoadFault) → AreGiven o f i t m → ProblemFails i t m fault
     → LoadFails o f before now (AreRefused o f) fault

@@ -1,6 +1,6 @@
 -- From three files that give nothing to what stops a command.
-use Rattle.std.proofs.Common.{ℕ, ◌≡◌, sym, subst, List}
-use Rattle.std.specs.Prelude.{Result, Ok, Err}
+use Rattle.std.proofs.Common.{ℕ, sym, subst, List}
+use Rattle.std.specs.Prelude.{Err}
 use Rattle.run_core.specs.Outside.{Told}
 use Rattle.run_core.specs.Texts.{read_fault_text}
 use Rattle.run_core.specs.Calls.{Stops, NoReadFailed, NoReadOfStepFailed}

@@ -1,5 +1,5 @@
 -- What a run in which no call fails answers of three input files.
-use Rattle.std.specs.Prelude.{ℕ, List, Option, Some, None}
+use Rattle.std.specs.Prelude.{List, Option, Some, None}
 use Rattle.problem_core.specs.declared.limit.Limit.{Limit}
 use Rattle.problem_core.specs.Limits.{limit_of}
 use Rattle.ctt_reader.specs.declared.instance.Instance.{Instance}
