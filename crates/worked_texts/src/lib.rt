@@ -1,5 +1,5 @@
-//! Worked cases of the outside of the program, of the readers and writers of its files, of the score, and of the text
-//! of a certificate, through the public calls of their crates: tests alone.
+//! Worked cases of the outside of the program, of the readers and writers of its files, of the score, of the page
+//! of a week, and of the text of a certificate, through the public calls of their crates: tests alone.
 #![tactic(auto)]
 
 #[cfg(test)]
@@ -14,3 +14,5 @@ mod outside;
 mod score;
 #[cfg(test)]
 mod times;
+#[cfg(test)]
+mod week;

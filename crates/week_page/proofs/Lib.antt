@@ -1,0 +1,5 @@
+pub mod ListLemmas
+pub mod TableLemmas
+pub mod PageLemmas
+pub mod RunLaws
+pub mod MarkLemmas

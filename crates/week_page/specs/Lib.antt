@@ -1,0 +1,10 @@
+pub mod Escaped
+pub mod Style
+pub mod Lists
+pub mod Cells
+pub mod Page
+pub mod Usage
+pub mod Run
+pub mod Expected
+pub mod Exits
+pub mod Markup
