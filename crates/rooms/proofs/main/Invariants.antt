@@ -1,0 +1,4 @@
+use Rattle.rooms.proofs.main.Given as goal
+
+abbrev pub ghosts-number : goal.ghosts-number
+ghosts-number a = record { name = a.blank.name; parts = a.blank.parts }
