@@ -4,7 +4,7 @@ use Rattle.std.specs.Prelude.{String}
 use Rattle.std.specs.declared.alloc.Global.{Global}
 use Rattle.run_core.specs.Expected.{words_of}
 use Rattle.run_core.specs.Outside.{Shelved, Printed}
-use Rattle.rooms_cmd.specs.Words.{command}
+use Rattle.command_words.specs.Words.{command}
 use Rattle.rooms_cmd.specs.Work.{Work}
 use Rattle.rooms_cmd.specs.Exits.{IsExit}
 

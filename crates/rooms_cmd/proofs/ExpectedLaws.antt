@@ -27,8 +27,8 @@ use Rattle.tool_core.specs.Inputs.{AreGiven, HasModel}
 use Rattle.tool_core.specs.Expected.{Next, of_files, of_model}
 use Rattle.tool_core.specs.declared.inputs.Names.{Names}
 use Rattle.tool_core.proofs.ExpectedLaws.{of_problem, of_problem_with_model, of_refused_files, of_refused_model, of_unread_file}
-use Rattle.rooms_cmd.specs.declared.words.Command.{Command}
-use Rattle.rooms_cmd.specs.declared.words.Command.TheVariants.{Solve, Check, Recert, Measure}
+use Rattle.command_words.specs.declared.words.Command.{Command}
+use Rattle.command_words.specs.declared.words.Command.TheVariants.{Solve, Check, Recert, Measure}
 use Rattle.rooms_cmd.specs.Answers.{long_certificate_text}
 use Rattle.rooms_cmd.specs.Unread.{IsUnreadInput}
 use Rattle.rooms_cmd.specs.Work.{Work}

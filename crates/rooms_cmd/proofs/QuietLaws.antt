@@ -25,8 +25,8 @@ use Rattle.run_core.proofs.ExpectedLaws.{quiet_run}
 use Rattle.tool_core.specs.Expected.{of_model}
 use Rattle.tool_core.specs.declared.inputs.Names.{Names}
 use Rattle.tool_core.proofs.ExpectedLaws.{of_problem, of_problem_with_model, of_refused_model}
-use Rattle.rooms_cmd.specs.declared.words.Command.{Command}
-use Rattle.rooms_cmd.specs.declared.words.Command.TheVariants.{Solve, Check, Recert, Measure}
+use Rattle.command_words.specs.declared.words.Command.{Command}
+use Rattle.command_words.specs.declared.words.Command.TheVariants.{Solve, Check, Recert, Measure}
 use Rattle.rooms_cmd.specs.Answers.{verified_text}
 use Rattle.rooms_cmd.specs.Work.{Work}
 use Rattle.rooms_cmd.specs.Run.{Explains}

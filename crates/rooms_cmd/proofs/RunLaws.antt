@@ -8,9 +8,9 @@ use Rattle.run_core.specs.Ends.{PrintEnds, RunEnds}
 use Rattle.run_core.specs.declared.status.ToolStatus.{ToolStatus}
 use Rattle.run_core.proofs.EndLaws.{print_ends}
 use Rattle.tool_core.specs.declared.inputs.Names.{Names}
-use Rattle.rooms_cmd.specs.declared.words.Command.{Command}
-use Rattle.rooms_cmd.specs.declared.words.Command.TheVariants.{Solve, Check, Recert, Measure}
-use Rattle.rooms_cmd.specs.Words.{is_word, is_apart, writes_apart}
+use Rattle.command_words.specs.declared.words.Command.{Command}
+use Rattle.command_words.specs.declared.words.Command.TheVariants.{Solve, Check, Recert, Measure}
+use Rattle.command_words.specs.Words.{is_word, is_apart, writes_apart}
 use Rattle.rooms_cmd.specs.Work.{Work}
 use Rattle.rooms_cmd.specs.Run.{AreKept, IsUnwritten, Explains, Keeps, KeepsInputs}
 

@@ -5,7 +5,7 @@ use Rattle.run_core.specs.Outside.{Shelved, Printed}
 use Rattle.run_core.specs.Calls.{NoReadFailed, NoWriteFailed}
 use Rattle.run_core.specs.Ends.{RunEnds}
 use Rattle.run_core.specs.declared.status.ToolStatus.{ToolStatus}
-use Rattle.rooms_cmd.specs.declared.words.Command.{Command}
+use Rattle.command_words.specs.declared.words.Command.{Command}
 use Rattle.rooms_cmd.specs.Work.{Work}
 use Rattle.rooms_cmd.specs.Run.{Explains, Keeps, KeepsInputs, WritesOnce}
 

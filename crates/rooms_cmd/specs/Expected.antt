@@ -25,8 +25,8 @@ use Rattle.reports.specs.Lines.{value_lines, room_fault_text}
 use Rattle.tool_core.specs.Inputs.{AreGiven, HasProblem, HasModel}
 use Rattle.tool_core.specs.Expected.{of_files, of_model}
 use Rattle.tool_core.specs.declared.inputs.Names.{Names}
-use Rattle.rooms_cmd.specs.declared.words.Command.{Command}
-use Rattle.rooms_cmd.specs.declared.words.Command.TheVariants.{Solve, Check, Recert, Measure}
+use Rattle.command_words.specs.declared.words.Command.{Command}
+use Rattle.command_words.specs.declared.words.Command.TheVariants.{Solve, Check, Recert, Measure}
 use Rattle.rooms_cmd.specs.Answers.{usage_text, verified_text, not_verified_text, long_certificate_text}
 use Rattle.rooms_cmd.specs.Checking.{certificate_limit}
 use Rattle.rooms_cmd.specs.Solving.{HoldsCertificate}

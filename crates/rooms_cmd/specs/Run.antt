@@ -9,8 +9,8 @@ use Rattle.run_core.specs.declared.status.ToolStatus.{ToolStatus}
 use Rattle.run_core.specs.declared.status.ToolStatus.TheVariants as statuses
 use Rattle.tool_core.specs.Inputs.{AreRefused, AreRefusedForModel}
 use Rattle.tool_core.specs.declared.inputs.Names.{Names}
-use Rattle.rooms_cmd.specs.declared.words.Command.{Command}
-use Rattle.rooms_cmd.specs.declared.words.Command.TheVariants.{Solve, Check, Recert, Measure}
+use Rattle.command_words.specs.declared.words.Command.{Command}
+use Rattle.command_words.specs.declared.words.Command.TheVariants.{Solve, Check, Recert, Measure}
 use Rattle.rooms_cmd.specs.Answers.{usage_text}
 use Rattle.rooms_cmd.specs.Unread.{IsUnreadInput}
 use Rattle.rooms_cmd.specs.Work.{Work}

@@ -3,7 +3,7 @@ ghost use Rattle.run_core.specs.Exits.{number_without};
 ghost use Rattle.run_core.specs.Expected.{words_of};
 ghost use Rattle.run_core.specs.Outside.{shelved, printed};
 ghost use Rattle.rooms_cmd.specs.Exits.{IsExit};
-ghost use Rattle.rooms_cmd.specs.Words.{command};
+ghost use Rattle.command_words.specs.Words.{command};
 ghost use Rattle.rooms_cmd.specs.Work.{work};
 
 use crate::command::run;

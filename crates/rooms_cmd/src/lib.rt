@@ -10,9 +10,8 @@ mod putting;
 mod recert;
 mod solve;
 mod texts;
-mod words;
 
 pub use command::run;
+pub use command_words::{Command, read_command};
 pub use exit::exit_status;
 pub use run_core::{NoWords, ToolStatus as Status};
-pub use words::{Command, read_command};

@@ -1,0 +1,41 @@
+-- The forms are simple, and which arguments stand in them.
+use Rattle.std.proofs.Common.{ℕ, zero, suc, ◌≡◌, ◌<◌, refl, arith, true, codes, length}
+use Rattle.std.specs.List.{slice_index_or}
+use Rattle.std.specs.Str.{bytes_eq}
+use Rattle.clap.specs.Words.{Rule, is_simple_and_free}
+use Rattle.clap.proofs.OnLiterals.{clap_on_literals}
+use Rattle.command_words.specs.Forms.{budget, solve, check, recert, measure}
+use Rattle.command_words.proofs.ValueLaws.{IsFreeForm, StandsAt}
+
+pub simple_solve : is_simple_and_free solve ≡ true
+unfolding solve clap_on_literals
+simple_solve = refl
+
+pub simple_check : is_simple_and_free check ≡ true
+unfolding check clap_on_literals
+simple_check = refl
+
+pub simple_recert : is_simple_and_free recert ≡ true
+unfolding recert clap_on_literals
+simple_recert = refl
+
+pub simple_measure : is_simple_and_free measure ≡ true
+unfolding measure clap_on_literals
+simple_measure = refl
+
+pub free_solve : IsFreeForm solve
+unfolding solve clap_on_literals
+free_solve = record { ready = refl; leaves = refl; free = refl; negates = refl }
+
+only_budget : (j : ℕ) (e : Rule) → j < length solve.top.rules → bytes_eq (slice_index_or solve.top.rules j e).id (codes "budget") ≡ true → j ≡ 4
+unfolding solve clap_on_literals
+only_budget zero e lt same = cc
+only_budget (suc zero) e lt same = cc
+only_budget (suc (suc zero)) e lt same = cc
+only_budget (suc (suc (suc zero))) e lt same = cc
+only_budget (suc (suc (suc (suc zero)))) e lt same = refl
+only_budget (suc (suc (suc (suc (suc j))))) e lt same = absurd (omega arith)
+
+pub budget_in_solve : StandsAt solve 4 budget
+unfolding solve clap_on_literals
+budget_in_solve = record { there = refl; alone = only_budget; has_id = λ e. cc; no_help = λ e. cc; no_version = λ e. cc }

@@ -1,0 +1,4 @@
+pub mod ArgumentLaws
+pub mod FormLaws
+pub mod MatchingLaws
+pub mod ValueLaws
