@@ -1,6 +1,6 @@
 -- What the values of a parse are, by its rows.
 use Rattle.std.proofs.Common.{ℕ, ◌≡◌, ◌<◌, ◌^◌, ◌∙◌, ap, sym, subst, refl, arith, List, [], Option, Some, None}
-use Rattle.std.specs.Prelude.{IfSome, Ok, Err, Result, unwrap_or}
+use Rattle.std.specs.Prelude.{IfSome, IsSomeAnd, Ok, Err, Result, unwrap_or}
 use Rattle.std.specs.Option.{option_map_or}
 use Rattle.std.specs.Str.Parse.{ParsesUnsigned}
 use Rattle.clap.specs.Words.{ReadsOne, Text, IsUnsignedIn, first_value, one_of, one_text, rows_of}
@@ -37,3 +37,7 @@ number_given E G k low high other f id r only fits passed none value =
     go (Some t) e =
         let in_range : IsUnsignedIn low high t = subst (λ o. IfSome o (IsUnsignedIn low high)) e passed in
         ap (λ x. unwrap_or x other) (number_read E G k low high t r (value t e) only fits in_range) ∙ ap (λ o. option_map_or number_of o other) (sym e)
+
+pub if_some : (o : Option Text) (P : Text → Type 0) → IsSomeAnd o P → IfSome o P
+if_some None P h = absurd h
+if_some (Some t) P h = h

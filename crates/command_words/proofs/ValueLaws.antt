@@ -1,5 +1,5 @@
 -- What a parse gives for an argument with a parser: each value of it passed that parser, and is read by it.
-use Rattle.std.proofs.Common.{ℕ, suc, ◌≡◌, ◌<◌, ◌∙◌, ap, sym, subst, refl, inl, inr, arith, Bool, true, false, List, [], ◌∷◌, length, map, Option, Some, None, codes}
+use Rattle.std.proofs.Common.{ℕ, suc, ◌≡◌, ◌<◌, ◌∙◌, ap, sym, subst, refl, inl, inr, arith, Bool, true, false, List, [], ◌∷◌, length, map, Option, Some, None, codes, is_some}
 use Rattle.std.specs.Prelude.{option_map, slice_get}
 use Rattle.std.specs.List.{All, list_all, slice_index_or}
 use Rattle.std.specs.Str.{bytes_eq}
@@ -9,9 +9,10 @@ use Rattle.std.proofs.lemmas.Bool.{and_parts}
 use Rattle.std.proofs.lemmas.List.Elements.{All-get_or}
 use Rattle.std.proofs.lemmas.Option.{none-some, same_Some, slice_get-map, slice_get_within, get_or_from_slice_get}
 use Rattle.std.proofs.lemmas.Slice.Eq.{bytes_eq-Decides}
-use Rattle.clap.specs.Words.{Accepts, App, Rule, Text, app_of, args_of, found_of, groups_of, matched_of, one_text, read_as, reading_of, rule_of, IsParsedFrom, IsPlain}
+use Rattle.clap.specs.Words.{Accepts, App, Rule, Text, app_of, args_of, first_value, found_of, groups_of, matched_of, one_text, read_as, reading_of, rule_of, IsParsedFrom, IsPlain}
 use Rattle.clap.specs.Built.{IsAuto}
-use Rattle.clap.specs.Facts.{Entry, EntryPasses, HasReading, PassesArg, parser_of, parser_of_value}
+use Rattle.clap.specs.Facts.{Entry, EntryPasses, HasReading, PassesArg, least_values, parser_of, parser_of_value, unwrap_or_range}
+use Rattle.clap.specs.declared.builder.action.ArgAction.TheVariants.{Set}
 use Rattle.clap.specs.Faults.{has_free_rules}
 use Rattle.clap.specs.Simple.{IsSimple, is_ready, is_ready_leaf, shape_of}
 use Rattle.clap.specs.declared.builder.arg.Arg.{Arg}
@@ -19,8 +20,9 @@ use Rattle.clap.specs.declared.builder.command.Command.{Command}
 use Rattle.clap.specs.declared.builder.value_parser.Reading.{Reading}
 use Rattle.clap.specs.declared.builder.value_parser.ValueParser.{ValueParser}
 use Rattle.clap.specs.declared.parser.matches.ArgMatches.{ArgMatches}
+use Rattle.clap.specs.declared.parser.matches.Found.{Found}
 use Rattle.clap.specs.declared.parser.matches.MatchedArg.{MatchedArg}
-use Rattle.clap.proofs.CallerLemmas.{entry_by_id, same_rules_by_id}
+use Rattle.clap.proofs.CallerLemmas.{entry_by_id, required_has_value, same_rules_by_id}
 use Rattle.clap.proofs.FaultLemmas.{free_args}
 use Rattle.clap.proofs.SimpleLemmas.{plain_fields, ready_simple, simple_groups}
 
@@ -165,3 +167,31 @@ value_read c m form k r q is free stands parser p t got = go (matched_of (found_
         let first : option_map (λ s. read_as x.reading s.now) (slice_get x.vals.items 0) ≡ Some t = rw e at got in
         entry_read p.built r.id r.ignore_case q entry.0 (p.from.plain plain).1 stands.has_id passes reads ((bytes_eq-Decides entry.0.0.now r.id).0 entry.2) entry.3 t
         (subst (λ (y : MatchedArg). option_map (λ s. read_as y.reading s.now) (slice_get y.vals.items 0) ≡ Some t) (sym entry.1) first)
+
+-- a required argument that takes one value has one
+pub value_there : (c : Command) (m : ArgMatches) (form : App) (k : ℕ) (r : Rule) → app_of c ≡ form → IsFreeForm form → StandsAt form k r → r.required ≡ true → r.action ≡ Some Set → r.range ≡ None
+    → IsParsedFrom c m → is_some (first_value (found_of m) r.id) ≡ true
+value_there c m form k r is free stands required set range p =
+    let at = arg_at c form k r is stands in
+    let arg = slice_index_or (args_of c) k at.arg in
+    let ready : is_ready (shape_of c) ≡ true = ap (λ (a : App). is_ready a.top) is ∙ free.ready in
+    let simple : IsSimple c = ready_simple c ready (ap (λ (a : App). list_all is_ready_leaf a.subs) is ∙ free.leaves) in
+    let values : arg.num_vals ≡ None = ap (λ (x : Rule). x.range) at.rule ∙ range in
+    let least : least_values arg ≡ 1 = ap (λ o. (unwrap_or_range o).start_inclusive) values in
+    let id : arg.id.now ≡ r.id = ap (λ (x : Rule). x.id) at.rule in
+    subst (λ (w : Text). is_some (first_value (found_of m) w) ≡ true) id
+    (required_has_value c m p (plain_command c form is free) simple.globals (ap (λ (a : App). a.top.subcommand_negates_reqs) is ∙ free.negates) k at.arg at.within
+    (ap (λ (x : Rule). x.required) at.rule ∙ required) (ap (λ (x : Rule). x.action) at.rule ∙ set) (simple.args k at.arg at.within).delimiter (omega (arith, least)) at.alone
+    (λ empty. stands.has_id (sym id ∙ empty)) at.own)
+
+-- where a value is there, a text is read
+pub text_there : (f : Found) (id : Text) → is_some (first_value f id) ≡ true → (t : Text) × (one_text f id ≡ Some t)
+text_there f id has = go (matched_of f id) refl has
+  where
+    first : (x : MatchedArg) (vals : List (Bor Text)) → is_some (option_map (λ s. s.now) (slice_get vals 0)) ≡ true → (t : Text) × (option_map (λ s. read_as x.reading s.now) (slice_get vals 0) ≡ Some t)
+    first x [] h = cc
+    first x (v ∷ vs) h = (read_as x.reading v.now, refl)
+
+    go : (o : Option MatchedArg) → matched_of f id ≡ o → is_some (first_value f id) ≡ true → (t : Text) × (one_text f id ≡ Some t)
+    go None e h = let bad : false ≡ true = rw e at h in cc
+    go (Some x) e h = let r = first x x.vals.items (rw e at h) in (r.0, rw e r.1)

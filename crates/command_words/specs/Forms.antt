@@ -2,6 +2,7 @@
 use Rattle.std.specs.Prelude.{Some, true, codes}
 use Rattle.clap.specs.Words.{App, Rule, Text, new_app, new_rule, with_rule}
 use Rattle.clap.specs.Simple.{on_top}
+use Rattle.clap.specs.declared.builder.action.ArgAction.TheVariants.{Set, SetTrue}
 use Rattle.clap.specs.declared.builder.value_parser.ValueParser.TheVariants as parsers
 
 -- a positional argument, which has to be given
@@ -11,6 +12,14 @@ named id = record (new_rule id) { required = true }
 -- `--budget` and its number
 abbrev pub budget : Rule
 budget = record (new_rule (codes "budget")) { long = Some (codes "budget"); parser = Some (parsers.Unsigned 0 1000000) }
+
+-- `--json`, which takes no value
+abbrev pub json : Rule
+json = record (new_rule (codes "json")) { long = Some (codes "json"); action = Some SetTrue }
+
+-- the number of courses, which has to be given
+abbrev pub courses : Rule
+courses = record (named (codes "n")) { action = Some Set; parser = Some (parsers.Unsigned 1 300) }
 
 -- a command that is given its words without a program's name
 abbrev pub bare : Text → App
@@ -39,3 +48,11 @@ recert = with_rule (on_certificate (codes "recert")) (named (codes "new"))
 -- `measure INSTANCE TIMES MEASURES`
 unfoldable pub measure : App
 measure = on_files (codes "measure")
+
+-- `report INSTANCE TIMES MEASURES [--json]`
+unfoldable pub report : App
+report = with_rule (on_files (codes "report")) json
+
+-- `demo N [--budget N]`
+unfoldable pub demo : App
+demo = with_rule (with_rule (bare (codes "demo")) courses) budget

@@ -1,6 +1,6 @@
-ghost use Rattle.std.specs.Prelude.{◌≡◌, ◌≤◌, IfOk, IfSome, codes};
+ghost use Rattle.std.specs.Prelude.{◌≡◌, ◌≤◌, IfOk, IfSome, IsSomeAnd, codes};
 ghost use Rattle.clap.specs.Words.{found_of, rows_of, one_text, IsUnsignedIn};
-ghost use Rattle.command_words.specs.Words.{text_in, names_in, budget_in, budget_limit};
+ghost use Rattle.command_words.specs.Words.{text_in, names_in, budget_in, budget_limit, json_in, courses_in, course_limit};
 
 use clap::ArgMatches;
 use std::alloc::{AllocError, Global};
@@ -43,5 +43,28 @@ pub fn budget_in(matches: &ArgMatches) -> u64
     match matches.get_one::<u64>("budget") {
         Some(budget) => budget,
         None => DEFAULT_BUDGET,
+    }
+}
+
+/// Whether `--json` is given.
+pub fn json_in(matches: &ArgMatches) -> bool
+    ensures { result ≡ json_in (rows_of (found_of matches.now)) }
+{
+    match matches.get_str("json") {
+        Some(word) => word == "true",
+        None => false,
+    }
+}
+
+/// The number of courses.
+pub fn courses_in(matches: &ArgMatches) -> u32
+    requires { IsSomeAnd (one_text (found_of matches.now) (codes "n")) (IsUnsignedIn 1 course_limit) }
+    ensures exact { result ≡ courses_in (rows_of (found_of matches.now)) }
+    ensures some { 1 ≤ result }
+    ensures few { result ≤ course_limit }
+{
+    match matches.get_one::<u32>("n") {
+        Some(courses) => courses,
+        None => unreachable!(),
     }
 }

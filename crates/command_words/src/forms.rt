@@ -1,8 +1,8 @@
 ghost use Rattle.std.specs.Prelude.{◌≡◌, false, IfOk};
 ghost use Rattle.clap.specs.Words.{app_of, rule_of};
-ghost use Rattle.command_words.specs.Forms.{named, budget, on_files, on_certificate, solve, check, recert, measure};
+ghost use Rattle.command_words.specs.Forms.{named, budget, json, courses, on_files, on_certificate, solve, check, recert, measure, report, demo, bare};
 
-use clap::{Arg, Command, value_parser};
+use clap::{Arg, ArgAction, Command, value_parser};
 use std::alloc::{AllocError, Global};
 
 /// A positional argument, which has to be given.
@@ -24,11 +24,39 @@ fn budget<'a>(alloc: Global) -> Arg<'a>
         .value_parser(parser)
 }
 
+/// `--json`, which takes no value.
+fn json<'a>(alloc: Global) -> Arg<'a>
+    ensures rule { rule_of result ≡ json }
+    ensures local { result.global ≡ false }
+{
+    Arg::new(alloc, "json")
+        .long("json")
+        .action(ArgAction::SetTrue)
+}
+
+/// The number of courses, which has to be given.
+fn courses<'a>(alloc: Global) -> Arg<'a>
+    ensures rule { rule_of result ≡ courses }
+    ensures local { result.global ≡ false }
+{
+    let parser = value_parser!(u64).range(1..=300);
+    named(alloc, "n")
+        .action(ArgAction::Set)
+        .value_parser(parser)
+}
+
+/// A command that is given its words without a program's name.
+fn bare<'a>(alloc: Global, name: &'a str) -> Command<'a>
+    ensures { app_of result ≡ bare name.entry.now }
+{
+    Command::new(alloc, name).no_binary_name(true)
+}
+
 /// A command that takes the three files.
 fn on_files<'a>(alloc: Global, name: &'a str) -> Result<Command<'a>, AllocError>
     ensures { IfOk result (λ c. app_of c ≡ on_files name.entry.now) }
 {
-    let command = Command::new(alloc, name).no_binary_name(true);
+    let command = bare(alloc, name);
     let command = command.arg(named(alloc, "instance"))?;
     let command = command.arg(named(alloc, "times"))?;
     command.arg(named(alloc, "measures"))
@@ -70,4 +98,21 @@ pub fn measure<'a>(alloc: Global) -> Result<Command<'a>, AllocError>
     ensures { IfOk result (λ c. app_of c ≡ measure) }
 {
     on_files(alloc, "measure")
+}
+
+/// `report INSTANCE TIMES MEASURES [--json]`
+pub fn report<'a>(alloc: Global) -> Result<Command<'a>, AllocError>
+    ensures { IfOk result (λ c. app_of c ≡ report) }
+{
+    let command = on_files(alloc, "report")?;
+    command.arg(json(alloc))
+}
+
+/// `demo N [--budget N]`
+pub fn demo<'a>(alloc: Global) -> Result<Command<'a>, AllocError>
+    ensures { IfOk result (λ c. app_of c ≡ demo) }
+{
+    let command = bare(alloc, "demo");
+    let command = command.arg(courses(alloc))?;
+    command.arg(budget(alloc))
 }

@@ -2,10 +2,10 @@ ghost use Rattle.std.specs.Prelude.{◌≡◌, true, IfOk, IfSome, Some, option_
 ghost use Rattle.run_core.specs.Expected.{words_of};
 ghost use Rattle.command_words.specs.Forms as forms;
 ghost use Rattle.command_words.specs.Matching.{matches_on};
-ghost use Rattle.command_words.specs.Words.{command, named_command, command_after, solve_in, check_in, recert_in, measure_in, where_apart, writes_apart, is_apart, IsBudgeted};
+ghost use Rattle.command_words.specs.Words.{command, named_command, command_after, solve_in, check_in, recert_in, measure_in, report_in, demo_in, where_apart, writes_apart, is_apart, IsInRange};
 
-use crate::arguments::{budget_in, names_in, text_in};
-use crate::forms::{check, measure, recert, solve};
+use crate::arguments::{budget_in, courses_in, json_in, names_in, text_in};
+use crate::forms::{check, demo, measure, recert, report, solve};
 use crate::matching::matches_on;
 use std::alloc::{AllocError, Global};
 use tool_core::Names;
@@ -35,17 +35,27 @@ pub enum Command {
     Measure {
         names: Names,
     },
+    /// Report who is where, by the rooms that the times give, as a text or as a line of JSON.
+    Report {
+        names: Names,
+        json: bool,
+    },
+    /// Make an input of so many courses, find its best rooms and check them; so many branches may be made.
+    Demo {
+        courses: u32,
+        budget: u64,
+    },
 }
 
 /// The command that the words give: `solve INSTANCE TIMES MEASURES CERT [--budget N]`, `check INSTANCE TIMES MEASURES
-/// CERT`, `recert INSTANCE TIMES MEASURES CERT NEW` or `measure INSTANCE TIMES MEASURES`. The words after the first
-/// one are read by a simple command of the library `clap`, which takes options before, between and behind the names;
-/// what is a command is exactly what its matches give. `None` comes exactly for other words, and where the file that
-/// the command writes is one that it reads.
+/// CERT`, `recert INSTANCE TIMES MEASURES CERT NEW`, `measure INSTANCE TIMES MEASURES`, `report INSTANCE TIMES MEASURES
+/// [--json]` or `demo N [--budget N]`. The words after the first one are read by a simple command of the library
+/// `clap`, which takes options before, between and behind the names; what is a command is exactly what its matches
+/// give. `None` comes exactly for other words, and where the file that the command writes is one that it reads.
 pub fn read_command(alloc: Global, words: &[String]) -> Result<Option<Command>, AllocError>
     ensures exact { IfOk result (λ c. c ≡ command (words_of words.now)) }
     ensures apart { IfOk result (λ c. IfSome c (λ asked. writes_apart asked ≡ true)) }
-    ensures budgeted { IfOk result (λ c. IfSome c IsBudgeted) }
+    ensures in_range { IfOk result (λ c. IfSome c IsInRange) }
 {
     match read_named(alloc, words)? {
         Some(command) => Ok(where_apart(command)),
@@ -55,10 +65,10 @@ pub fn read_command(alloc: Global, words: &[String]) -> Result<Option<Command>, 
 
 /// The command, unless it would write a file that it reads.
 fn where_apart(command: Command) -> Option<Command>
-    requires { IsBudgeted command }
+    requires { IsInRange command }
     ensures exact { result ≡ where_apart (Some command) }
     ensures apart { IfSome result (λ asked. writes_apart asked ≡ true) }
-    ensures budgeted { IfSome result IsBudgeted }
+    ensures in_range { IfSome result IsInRange }
 {
     if writes_apart(&command) {
         Some(command)
@@ -91,6 +101,11 @@ fn writes_apart(command: &Command) -> bool
             apart && !same
         }
         Command::Measure { names: _ } => true,
+        Command::Report { names: _, json: _ } => true,
+        Command::Demo {
+            courses: _,
+            budget: _,
+        } => true,
     }
 }
 
@@ -107,7 +122,7 @@ fn is_apart(name: &Text, names: &Names) -> bool
 /// The command of a first word and the words after it, whichever file it writes.
 fn read_named(alloc: Global, words: &[String]) -> Result<Option<Command>, AllocError>
     ensures exact { IfOk result (λ c. c ≡ named_command (words_of words.now)) }
-    ensures budgeted { IfOk result (λ c. IfSome c IsBudgeted) }
+    ensures in_range { IfOk result (λ c. IfSome c IsInRange) }
 {
     match words {
         [] => Ok(None),
@@ -117,7 +132,7 @@ fn read_named(alloc: Global, words: &[String]) -> Result<Option<Command>, AllocE
 
 fn read_after(alloc: Global, first: &str, words: &[String]) -> Result<Option<Command>, AllocError>
     ensures exact { IfOk result (λ c. c ≡ command_after first.now (words_of words.now)) }
-    ensures budgeted { IfOk result (λ c. IfSome c IsBudgeted) }
+    ensures in_range { IfOk result (λ c. IfSome c IsInRange) }
 {
     if first == "solve" {
         return read_solve(alloc, words);
@@ -131,12 +146,18 @@ fn read_after(alloc: Global, first: &str, words: &[String]) -> Result<Option<Com
     if first == "measure" {
         return read_measure(alloc, words);
     }
+    if first == "report" {
+        return read_report(alloc, words);
+    }
+    if first == "demo" {
+        return read_demo(alloc, words);
+    }
     Ok(None)
 }
 
 fn read_solve(alloc: Global, words: &[String]) -> Result<Option<Command>, AllocError>
     ensures exact { IfOk result (λ c. c ≡ option_map solve_in (matches_on forms.solve (words_of words.now))) }
-    ensures budgeted { IfOk result (λ c. IfSome c IsBudgeted) }
+    ensures in_range { IfOk result (λ c. IfSome c IsInRange) }
 {
     match matches_on(solve(alloc)?, words)? {
         Some(matches) => {
@@ -155,7 +176,7 @@ fn read_solve(alloc: Global, words: &[String]) -> Result<Option<Command>, AllocE
 
 fn read_check(alloc: Global, words: &[String]) -> Result<Option<Command>, AllocError>
     ensures exact { IfOk result (λ c. c ≡ option_map check_in (matches_on forms.check (words_of words.now))) }
-    ensures budgeted { IfOk result (λ c. IfSome c IsBudgeted) }
+    ensures in_range { IfOk result (λ c. IfSome c IsInRange) }
 {
     match matches_on(check(alloc)?, words)? {
         Some(matches) => {
@@ -169,7 +190,7 @@ fn read_check(alloc: Global, words: &[String]) -> Result<Option<Command>, AllocE
 
 fn read_recert(alloc: Global, words: &[String]) -> Result<Option<Command>, AllocError>
     ensures exact { IfOk result (λ c. c ≡ option_map recert_in (matches_on forms.recert (words_of words.now))) }
-    ensures budgeted { IfOk result (λ c. IfSome c IsBudgeted) }
+    ensures in_range { IfOk result (λ c. IfSome c IsInRange) }
 {
     match matches_on(recert(alloc)?, words)? {
         Some(matches) => {
@@ -188,11 +209,37 @@ fn read_recert(alloc: Global, words: &[String]) -> Result<Option<Command>, Alloc
 
 fn read_measure(alloc: Global, words: &[String]) -> Result<Option<Command>, AllocError>
     ensures exact { IfOk result (λ c. c ≡ option_map measure_in (matches_on forms.measure (words_of words.now))) }
-    ensures budgeted { IfOk result (λ c. IfSome c IsBudgeted) }
+    ensures in_range { IfOk result (λ c. IfSome c IsInRange) }
 {
     match matches_on(measure(alloc)?, words)? {
         Some(matches) => Ok(Some(Command::Measure {
             names: names_in(alloc, &matches)?,
+        })),
+        None => Ok(None),
+    }
+}
+
+fn read_report(alloc: Global, words: &[String]) -> Result<Option<Command>, AllocError>
+    ensures exact { IfOk result (λ c. c ≡ option_map report_in (matches_on forms.report (words_of words.now))) }
+    ensures in_range { IfOk result (λ c. IfSome c IsInRange) }
+{
+    match matches_on(report(alloc)?, words)? {
+        Some(matches) => Ok(Some(Command::Report {
+            names: names_in(alloc, &matches)?,
+            json: json_in(&matches),
+        })),
+        None => Ok(None),
+    }
+}
+
+fn read_demo(alloc: Global, words: &[String]) -> Result<Option<Command>, AllocError>
+    ensures exact { IfOk result (λ c. c ≡ option_map demo_in (matches_on forms.demo (words_of words.now))) }
+    ensures in_range { IfOk result (λ c. IfSome c IsInRange) }
+{
+    match matches_on(demo(alloc)?, words)? {
+        Some(matches) => Ok(Some(Command::Demo {
+            courses: courses_in(&matches),
+            budget: budget_in(&matches),
         })),
         None => Ok(None),
     }

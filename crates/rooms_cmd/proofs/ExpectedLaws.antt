@@ -28,13 +28,13 @@ use Rattle.tool_core.specs.Expected.{Next, of_files, of_model}
 use Rattle.tool_core.specs.declared.inputs.Names.{Names}
 use Rattle.tool_core.proofs.ExpectedLaws.{of_problem, of_problem_with_model, of_refused_files, of_refused_model, of_unread_file}
 use Rattle.command_words.specs.declared.words.Command.{Command}
-use Rattle.command_words.specs.declared.words.Command.TheVariants.{Solve, Check, Recert, Measure}
+use Rattle.command_words.specs.declared.words.Command.TheVariants.{Solve, Check, Recert, Measure, Report, Demo}
 use Rattle.rooms_cmd.specs.Answers.{long_certificate_text}
 use Rattle.rooms_cmd.specs.Unread.{IsUnreadInput}
 use Rattle.rooms_cmd.specs.Work.{Work}
 use Rattle.rooms_cmd.specs.Checking.{certificate_limit, IsLongCertificate, IsRefusedWith, IsUnreadWith}
 use Rattle.rooms_cmd.specs.Run.{IsDone, IsNo, IsUsage, IsOpen, IsBadInput, IsUnread, IsUnwritten, Explains}
-use Rattle.rooms_cmd.specs.Expected.{of_fault, of_rooms, of_verdict, of_certificate, of_judged, of_search, expected}
+use Rattle.rooms_cmd.specs.Expected.{of_fault, of_rooms, of_report, of_reported, of_verdict, of_certificate, of_judged, of_search, expected}
 
 -- ---- legal rooms have no fault
 
@@ -109,6 +109,9 @@ said_done s (Some (Recert f name new)) text told h =
     said text Done _ (verdict_answer s.told f name h.bytes h.i h.t h.m told h.given h.model h.whole ∙ ap of_verdict v.verdict ∙ ap (Says Done) (sym v.is))
 said_done s (Some (Measure f)) text told h =
     said text Done _ (of_problem of_rooms s.told f h.i h.t h.m told h.given h.problem ∙ ap (of_fault h.i h.t h.m) (none_where (problem_of h.i h.t h.m) (given_rooms h.t) h.legal) ∙ ap (Says Done) (sym h.is))
+said_done s (Some (Report f json)) text told h =
+    said text Done _ (of_problem (of_report json) s.told f h.i h.t h.m told h.given h.problem ∙ ap (of_reported json h.i h.t h.m) (none_where (problem_of h.i h.t h.m) (given_rooms h.t) h.legal) ∙ ap (Says Done) (sym h.is))
+said_done s (Some (Demo courses budget)) text told h = inl refl
 said_done s None text told h = absurd h
 
 said_no : (s : Shelved) (c : Option Command) (text : List ℕ) → IsTrue s.told.tells → IsNo s c text → IsSaid text No (expected s.told.held c)
@@ -119,6 +122,9 @@ said_no s (Some (Recert f name new)) text told h =
     said text No _ (verdict_answer s.told f name h.bytes h.i h.t h.m told h.given h.model h.whole ∙ ap of_verdict h.says_so.verdict ∙ ap (Says No) (sym h.says_so.is))
 said_no s (Some (Measure f)) text told h =
     said text No _ (of_problem of_rooms s.told f h.i h.t h.m told h.given h.problem ∙ ap (of_fault h.i h.t h.m) h.first ∙ ap (Says No) (sym h.is))
+said_no s (Some (Report f json)) text told h =
+    said text No _ (of_problem (of_report json) s.told f h.i h.t h.m told h.given h.problem ∙ ap (of_reported json h.i h.t h.m) h.first ∙ ap (Says No) (sym h.is))
+said_no s (Some (Demo courses budget)) text told h = absurd h
 said_no s None text told h = absurd h
 
 said_usage : (s : Shelved) (c : Option Command) (text : List ℕ) → IsUsage c text → IsSaid text Usage (expected s.told.held c)
@@ -131,6 +137,8 @@ said_open s w (Some (Solve f name budget)) text told h =
 said_open s w (Some (Check f name)) text told h = absurd h
 said_open s w (Some (Recert f name new)) text told h = absurd h
 said_open s w (Some (Measure f)) text told h = absurd h
+said_open s w (Some (Report f json)) text told h = absurd h
+said_open s w (Some (Demo courses budget)) text told h = inr refl
 said_open s w None text told h = absurd h
 
 said_bad : (s : Shelved) (c : Option Command) (text : List ℕ) → IsTrue s.told.tells → IsBadInput s c text → IsSaid text BadInput (expected s.told.held c)
@@ -138,6 +146,8 @@ said_bad s (Some (Solve f name budget)) text told h = said text BadInput _ (of_r
 said_bad s (Some (Check f name)) text told h = said text BadInput _ (refused_answer s.told f name text told h)
 said_bad s (Some (Recert f name new)) text told h = said text BadInput _ (refused_answer s.told f name text told h)
 said_bad s (Some (Measure f)) text told h = said text BadInput _ (of_refused_files of_rooms s.told f text told h)
+said_bad s (Some (Report f json)) text told h = said text BadInput _ (of_refused_files (of_report json) s.told f text told h)
+said_bad s (Some (Demo courses budget)) text told h = absurd h
 said_bad s None text told h = absurd h
 
 said_unread : (s : Shelved) (c : Option Command) (text : List ℕ) → IsTrue s.told.tells → (Rose s.reads.before s.reads.now → ⊥) → IsUnread s c text
@@ -146,6 +156,8 @@ said_unread s (Some (Solve f name budget)) text told quiet h = said text ReadFau
 said_unread s (Some (Check f name)) text told quiet h = said text ReadFault _ (unread_certificate_answer s f name text told quiet h)
 said_unread s (Some (Recert f name new)) text told quiet h = said text ReadFault _ (unread_certificate_answer s f name text told quiet h)
 said_unread s (Some (Measure f)) text told quiet h = said text ReadFault _ (unread_answer of_rooms s f text told quiet h)
+said_unread s (Some (Report f json)) text told quiet h = said text ReadFault _ (unread_answer (of_report json) s f text told quiet h)
+said_unread s (Some (Demo courses budget)) text told quiet h = absurd h
 said_unread s None text told quiet h = absurd h
 
 -- a file that the command writes is put where no put fails
@@ -154,6 +166,8 @@ put_where s (Some (Solve f name budget)) text quiet h = quiet h.rose
 put_where s (Some (Check f name)) text quiet h = h
 put_where s (Some (Recert f name new)) text quiet h = quiet h.rose
 put_where s (Some (Measure f)) text quiet h = h
+put_where s (Some (Report f json)) text quiet h = h
+put_where s (Some (Demo courses budget)) text quiet h = h
 put_where s None text quiet h = h
 
 -- where the shelf tells what its names hold and no call of it failed

@@ -1,10 +1,12 @@
 pub mod AnswerLaws
 pub mod CheckLaws
+pub mod DemoLaws
 pub mod ExitLaws
 pub mod ExpectedLaws
 pub mod MeasureLaws
 pub mod QuietLaws
 pub mod RecertLaws
+pub mod ReportLaws
 pub mod RunLaws
 pub mod SameLaws
 pub mod SolveLaws

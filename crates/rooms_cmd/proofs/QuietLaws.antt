@@ -26,11 +26,12 @@ use Rattle.tool_core.specs.Expected.{of_model}
 use Rattle.tool_core.specs.declared.inputs.Names.{Names}
 use Rattle.tool_core.proofs.ExpectedLaws.{of_problem, of_problem_with_model, of_refused_model}
 use Rattle.command_words.specs.declared.words.Command.{Command}
-use Rattle.command_words.specs.declared.words.Command.TheVariants.{Solve, Check, Recert, Measure}
+use Rattle.command_words.specs.declared.words.Command.TheVariants.{Solve, Check, Recert, Measure, Report, Demo}
 use Rattle.rooms_cmd.specs.Answers.{verified_text}
+use Rattle.rooms_cmd.specs.Demonstrating.{demo_problem}
 use Rattle.rooms_cmd.specs.Work.{Work}
 use Rattle.rooms_cmd.specs.Run.{Explains}
-use Rattle.rooms_cmd.specs.Expected.{of_fault, of_rooms, of_verdict, of_search, expected, IsAccepted, IsAcceptedWith, IsValidInput, Accepted, AcceptedWith, Valid, Legal, Illegal, HoldsValid, HoldsWhereAccepted}
+use Rattle.rooms_cmd.specs.Expected.{of_fault, of_rooms, of_report, of_reported, of_verdict, of_search, expected, IsAccepted, IsAcceptedWith, IsValidInput, Accepted, AcceptedWith, Valid, Legal, Illegal, IsDemo, IsDemoWith, HoldsValid, HoldsWhereAccepted}
 use Rattle.rooms_cmd.proofs.ExpectedLaws.{none_where, some_where, verdict_answer, unread_answer, explained_is_said}
 use Rattle.rooms_cmd.proofs.SameLaws.{one_problem}
 
@@ -62,6 +63,8 @@ accepted s p w (Some (Solve f name budget)) status ends q a =
 accepted s p w (Some (Check f name)) status ends q a = absurd a
 accepted s p w (Some (Recert f name new)) status ends q a = absurd a
 accepted s p w (Some (Measure f)) status ends q a = absurd a
+accepted s p w (Some (Report f json)) status ends q a = absurd a
+accepted s p w (Some (Demo courses budget)) status ends q a = absurd a
 accepted s p w None status ends q a = absurd a
 
 -- a search that is left open had too small a budget
@@ -88,15 +91,64 @@ enough s p w (Some (Solve f name budget)) status ends q a =
 enough s p w (Some (Check f name)) status ends q a = absurd a
 enough s p w (Some (Recert f name new)) status ends q a = absurd a
 enough s p w (Some (Measure f)) status ends q a = absurd a
+enough s p w (Some (Report f json)) status ends q a = absurd a
+enough s p w (Some (Demo courses budget)) status ends q a = absurd a
 enough s p w None status ends q a = absurd a
 
--- ---- `measure`
+-- ---- `demo`
+
+pub demo : (s : Shelved) (p : Printed) (w : Work) (c : Option Command) (status : ToolStatus) → Ends s p w c status → (Rose p.faults.before p.faults.now → ⊥) → IsDemo c
+    → (status ≡ Done) ⊎ ((status ≡ Open) ⊎ (status ≡ Memory))
+demo s p w (Some (Demo courses budget)) Done ends quiet h = inl refl
+demo s p w (Some (Demo courses budget)) No ends quiet h = absurd ends.why
+demo s p w (Some (Demo courses budget)) Usage ends quiet h = absurd ends.why
+demo s p w (Some (Demo courses budget)) Open ends quiet h = inr (inl refl)
+demo s p w (Some (Demo courses budget)) BadInput ends quiet h = absurd ends.why
+demo s p w (Some (Demo courses budget)) ReadFault ends quiet h = absurd ends.why
+demo s p w (Some (Demo courses budget)) WriteFault (inl fault) quiet h = absurd (quiet fault.rose)
+demo s p w (Some (Demo courses budget)) WriteFault (inr unput) quiet h = absurd unput.0
+demo s p w (Some (Demo courses budget)) Memory ends quiet h = inr (inr refl)
+demo s p w (Some (Solve f name budget)) status ends quiet h = absurd h
+demo s p w (Some (Check f name)) status ends quiet h = absurd h
+demo s p w (Some (Recert f name new)) status ends quiet h = absurd h
+demo s p w (Some (Measure f)) status ends quiet h = absurd h
+demo s p w (Some (Report f json)) status ends quiet h = absurd h
+demo s p w None status ends quiet h = absurd h
+
+demo_too_few : (s : Shelved) (p : Printed) (w : Work) (courses budget : ℕ) → Ends s p w (Some (Demo courses budget)) Open → IsDemoWith (Some (Demo courses budget)) → ⊥
+demo_too_few s p w courses budget ends enough =
+    let fewer : budget < 6 * (2 ^ (packing (demo_problem courses)).count - 1) = ends.why.is_open.fewer in
+    contradicted budget (6 * (2 ^ (packing (demo_problem courses)).count - 1)) fewer enough
+  where
+    contradicted : (b n : ℕ) → b < n → n ≤ b → ⊥
+    contradicted b n l m = omega arith
+
+pub demo_enough : (s : Shelved) (p : Printed) (w : Work) (c : Option Command) (status : ToolStatus) → Ends s p w c status → (Rose p.faults.before p.faults.now → ⊥) → IsDemoWith c → (status ≡ Done) ⊎ (status ≡ Memory)
+demo_enough s p w (Some (Demo courses budget)) status ends quiet h =
+    elim (demo s p w (Some (Demo courses budget)) status ends quiet tt) [
+      | inl d ↦ inl d
+      | inr (inl d) ↦ absurd (demo_too_few s p w courses budget (subst (Ends s p w (Some (Demo courses budget))) d ends) h)
+      | inr (inr d) ↦ inr d
+    ]
+demo_enough s p w (Some (Solve f name budget)) status ends quiet h = absurd h
+demo_enough s p w (Some (Check f name)) status ends quiet h = absurd h
+demo_enough s p w (Some (Recert f name new)) status ends quiet h = absurd h
+demo_enough s p w (Some (Measure f)) status ends quiet h = absurd h
+demo_enough s p w (Some (Report f json)) status ends quiet h = absurd h
+demo_enough s p w None status ends quiet h = absurd h
+
+-- ---- `measure` and `report`
 
 pub legal : (s : Shelved) (p : Printed) (w : Work) (c : Option Command) (status : ToolStatus) → Ends s p w c status → IsQuiet s p → Legal s.told c → (status ≡ Done) ⊎ (status ≡ Memory)
 legal s p w (Some (Measure f)) status ends q h =
     status_said p status Done _ (expected s.told.held (Some (Measure f)))
     (of_problem of_rooms s.told f h.i h.t h.m q.tells h.given h.problem ∙ ap (of_fault h.i h.t h.m) (none_where (problem_of h.i h.t h.m) (given_rooms h.t) h.legal))
     (quiet s p w (Some (Measure f)) status ends q)
+legal s p w (Some (Report f json)) status ends q h =
+    status_said p status Done _ (expected s.told.held (Some (Report f json)))
+    (of_problem (of_report json) s.told f h.i h.t h.m q.tells h.given h.problem ∙ ap (of_reported json h.i h.t h.m) (none_where (problem_of h.i h.t h.m) (given_rooms h.t) h.legal))
+    (quiet s p w (Some (Report f json)) status ends q)
+legal s p w (Some (Demo courses budget)) status ends q h = absurd h
 legal s p w (Some (Solve f name budget)) status ends q h = absurd h
 legal s p w (Some (Check f name)) status ends q h = absurd h
 legal s p w (Some (Recert f name new)) status ends q h = absurd h
@@ -109,6 +161,13 @@ illegal s p w (Some (Measure f)) status ends q h =
     status_said p status No _ (expected s.told.held (Some (Measure f)))
     (of_problem of_rooms s.told f h.i h.t h.m q.tells h.given h.problem ∙ ap (of_fault h.i h.t h.m) fault.1)
     (quiet s p w (Some (Measure f)) status ends q)
+illegal s p w (Some (Report f json)) status ends q h =
+    let choice = given_choice_of h.i h.t h.m (times_of-ok h.i h.given.times.bytes h.t.meetings h.given.times.text) in
+    let fault = some_where (problem_of h.i h.t h.m) (given_rooms h.t) choice h.illegal in
+    status_said p status No _ (expected s.told.held (Some (Report f json)))
+    (of_problem (of_report json) s.told f h.i h.t h.m q.tells h.given h.problem ∙ ap (of_reported json h.i h.t h.m) fault.1)
+    (quiet s p w (Some (Report f json)) status ends q)
+illegal s p w (Some (Demo courses budget)) status ends q h = absurd h
 illegal s p w (Some (Solve f name budget)) status ends q h = absurd h
 illegal s p w (Some (Check f name)) status ends q h = absurd h
 illegal s p w (Some (Recert f name new)) status ends q h = absurd h
@@ -141,6 +200,8 @@ valid s p w (Some (Recert f name new)) status read faultless ends q h =
     status_said p status Done _ (expected s.told.held (Some (Recert f name new))) (valid_verdict s.told f name read faultless q.tells h) (quiet s p w (Some (Recert f name new)) status ends q)
 valid s p w (Some (Solve f name budget)) status read faultless ends q h = absurd h
 valid s p w (Some (Measure f)) status read faultless ends q h = absurd h
+valid s p w (Some (Report f json)) status read faultless ends q h = absurd h
+valid s p w (Some (Demo courses budget)) status read faultless ends q h = absurd h
 valid s p w None status read faultless ends q h = absurd h
 
 -- ---- what `solve` put before its answer was not written
@@ -182,4 +243,6 @@ put s p w (Some (Solve f name budget)) status ends is told reads puts = holds (s
 put s p w (Some (Check f name)) status ends is told reads puts = tt
 put s p w (Some (Recert f name new)) status ends is told reads puts = tt
 put s p w (Some (Measure f)) status ends is told reads puts = tt
+put s p w (Some (Report f json)) status ends is told reads puts = tt
+put s p w (Some (Demo courses budget)) status ends is told reads puts = tt
 put s p w None status ends is told reads puts = tt

@@ -9,7 +9,7 @@ use Rattle.run_core.specs.declared.status.ToolStatus.{ToolStatus}
 use Rattle.run_core.proofs.EndLaws.{print_ends}
 use Rattle.tool_core.specs.declared.inputs.Names.{Names}
 use Rattle.command_words.specs.declared.words.Command.{Command}
-use Rattle.command_words.specs.declared.words.Command.TheVariants.{Solve, Check, Recert, Measure}
+use Rattle.command_words.specs.declared.words.Command.TheVariants.{Solve, Check, Recert, Measure, Report, Demo}
 use Rattle.command_words.specs.Words.{is_word, is_apart, writes_apart}
 use Rattle.rooms_cmd.specs.Work.{Work}
 use Rattle.rooms_cmd.specs.Run.{AreKept, IsUnwritten, Explains, Keeps, KeepsInputs}
@@ -40,6 +40,8 @@ inputs_kept s (Recert f name written) apart kept =
     let parts = and_parts (is_apart written f) (not (is_word written name)) apart in
     (are_kept s f written parts.0 kept, kept name (differs written name parts.1))
 inputs_kept s (Measure f) apart kept = all_kept s f kept
+inputs_kept s (Report f json) apart kept = all_kept s f kept
+inputs_kept s (Demo courses budget) apart kept = tt
 
 -- ---- how a run ends
 
@@ -49,6 +51,8 @@ unwritten_text s (Some (Solve f name budget)) text h = h.is
 unwritten_text s (Some (Check f name)) text h = absurd h
 unwritten_text s (Some (Recert f name new)) text h = h.is
 unwritten_text s (Some (Measure f)) text h = absurd h
+unwritten_text s (Some (Report f json)) text h = absurd h
+unwritten_text s (Some (Demo courses budget)) text h = absurd h
 unwritten_text s None text h = absurd h
 
 pub answer_printed : (p : Printed) (s : Shelved) (w : Work) (c : Option Command) (text : List ℕ) (wanted status : ToolStatus)

@@ -8,7 +8,7 @@ use Rattle.cert_checker.specs.declared.verdict.Reason.TheVariants as reasons
 use Rattle.reports.specs.Lines.{value_lines, meeting_lines}
 
 abbrev pub usage_text : List ℕ
-usage_text = codes "usage:\nrooms solve INSTANCE TIMES MEASURES CERT [--budget N]\nrooms check INSTANCE TIMES MEASURES CERT\nrooms recert INSTANCE TIMES MEASURES CERT NEW\nrooms measure INSTANCE TIMES MEASURES\n"
+usage_text = codes "usage:\nrooms solve INSTANCE TIMES MEASURES CERT [--budget N]\nrooms check INSTANCE TIMES MEASURES CERT\nrooms recert INSTANCE TIMES MEASURES CERT NEW\nrooms measure INSTANCE TIMES MEASURES\nrooms report INSTANCE TIMES MEASURES [--json]\nrooms demo N [--budget N]\n"
 
 -- ---- `solve`
 
@@ -36,6 +36,13 @@ reason_text (reasons.Pattern p) = codes "pattern " ++ decimal p
 reason_text (reasons.NotFree p) = codes "not free " ++ decimal p
 reason_text (reasons.Cost p) = codes "cost " ++ decimal p
 reason_text reasons.Bound = codes "bound"
+
+-- a word, a blank and a number
+abbrev pub counted_line : List ℕ → ℕ → List ℕ
+counted_line word n = word ++ codes " " ++ decimal n ++ codes "\n"
+
+abbrev pub verified_line : ℕ → List ℕ
+verified_line levels = counted_line (codes "verified") levels
 
 abbrev pub verified_text : ℕ → List ℤ → List ℕ
 verified_text levels values = codes "verified " ++ decimal levels ++ codes "\n" ++ value_lines values

@@ -1,5 +1,5 @@
 -- What a run in which no call fails answers, from the command and from what the names hold.
-use Rattle.std.specs.Prelude.{ℕ, ◌≤◌, ◌*◌, ◌-◌, ◌^◌, List, length, Option, Some, None, nat_lt, if◌then◌else◌}
+use Rattle.std.specs.Prelude.{ℕ, Bool, ◌≤◌, ◌*◌, ◌-◌, ◌^◌, List, length, Option, Some, None, nat_lt, if◌then◌else◌}
 use Rattle.input_core.specs.Reading.{IsWhole}
 use Rattle.problem_core.specs.Facts.{Facts}
 use Rattle.problem_core.specs.Choice.{IsLegal}
@@ -26,9 +26,11 @@ use Rattle.tool_core.specs.Inputs.{AreGiven, HasProblem, HasModel}
 use Rattle.tool_core.specs.Expected.{of_files, of_model}
 use Rattle.tool_core.specs.declared.inputs.Names.{Names}
 use Rattle.command_words.specs.declared.words.Command.{Command}
-use Rattle.command_words.specs.declared.words.Command.TheVariants.{Solve, Check, Recert, Measure}
+use Rattle.command_words.specs.declared.words.Command.TheVariants.{Solve, Check, Recert, Measure, Report, Demo}
 use Rattle.rooms_cmd.specs.Answers.{usage_text, verified_text, not_verified_text, long_certificate_text}
 use Rattle.rooms_cmd.specs.Checking.{certificate_limit}
+use Rattle.rooms_cmd.specs.Demonstrating.{demo_problem}
+use Rattle.rooms_cmd.specs.Reporting.{report_on}
 use Rattle.rooms_cmd.specs.Solving.{HoldsCertificate}
 
 -- the rooms given in the times, by their first fault
@@ -38,6 +40,14 @@ of_fault i t m (Some fault) = Says statuses.No (room_fault_text i t fault)
 
 abbrev pub of_rooms : Instance → Times → Measures → Expected
 of_rooms i t m = of_fault i t m (first_fault (problem_of i t m) (given_rooms t))
+
+-- the same with the report on them
+abbrev pub of_reported : Bool → Instance → Times → Measures → Option RoomFault → Expected
+of_reported json i t m None = Says statuses.Done (report_on json i t m)
+of_reported json i t m (Some fault) = Says statuses.No (room_fault_text i t fault)
+
+abbrev pub of_report : Bool → Instance → Times → Measures → Expected
+of_report json i t m = of_reported json i t m (first_fault (problem_of i t m) (given_rooms t))
 
 abbrev pub of_verdict : Verdict → Expected
 of_verdict (Verified levels values) = Says statuses.Done (verified_text levels values)
@@ -62,6 +72,8 @@ expected held (Some (Solve f certificate budget)) = of_files (of_model of_search
 expected held (Some (Check f certificate)) = of_files (of_model (of_judged held certificate)) held f
 expected held (Some (Recert f certificate new)) = of_files (of_model (of_judged held certificate)) held f
 expected held (Some (Measure f)) = of_files of_rooms held f
+expected held (Some (Report f json)) = of_files (of_report json) held f
+expected held (Some (Demo courses budget)) = Finds
 
 -- ---- inputs of which more is known
 
@@ -123,14 +135,25 @@ Valid o (Some (Check f certificate)) = IsValidInput o f certificate
 Valid o (Some (Recert f certificate new)) = IsValidInput o f certificate
 Valid o command = ⊥
 
--- `measure` of legal rooms, and of others
+-- `measure` and `report` of legal rooms, and of others
 abbrev pub Legal : Told → Option Command → Type 0
 Legal o (Some (Measure f)) = IsLegalInput o f
+Legal o (Some (Report f json)) = IsLegalInput o f
 Legal o command = ⊥
 
 abbrev pub Illegal : Told → Option Command → Type 0
 Illegal o (Some (Measure f)) = IsIllegalInput o f
+Illegal o (Some (Report f json)) = IsIllegalInput o f
 Illegal o command = ⊥
+
+-- `demo`, and with a budget that lets its search end
+abbrev pub IsDemo : Option Command → Type 0
+IsDemo (Some (Demo courses budget)) = Unit {0}
+IsDemo command = ⊥
+
+abbrev pub IsDemoWith : Option Command → Type 0
+IsDemoWith (Some (Demo courses budget)) = 6 * (2 ^ (packing (demo_problem courses)).count - 1) ≤ budget
+IsDemoWith command = ⊥
 
 -- the file that `solve` writes holds the text of a certificate that is valid for its finished levels
 pub record HoldsValid (s : Shelved) (p : Facts) (name : List ℕ) : Type 0 where

@@ -4,6 +4,8 @@ pub mod Unread
 pub mod Solving
 pub mod Checking
 pub mod Measuring
+pub mod Reporting
+pub mod Demonstrating
 pub mod Steps
 pub mod Run
 pub mod Expected

@@ -10,22 +10,26 @@ use Rattle.run_core.specs.declared.status.ToolStatus.TheVariants as statuses
 use Rattle.tool_core.specs.Inputs.{AreRefused, AreRefusedForModel}
 use Rattle.tool_core.specs.declared.inputs.Names.{Names}
 use Rattle.command_words.specs.declared.words.Command.{Command}
-use Rattle.command_words.specs.declared.words.Command.TheVariants.{Solve, Check, Recert, Measure}
+use Rattle.command_words.specs.declared.words.Command.TheVariants.{Solve, Check, Recert, Measure, Report, Demo}
 use Rattle.rooms_cmd.specs.Answers.{usage_text}
 use Rattle.rooms_cmd.specs.Unread.{IsUnreadInput}
 use Rattle.rooms_cmd.specs.Work.{Work}
 use Rattle.rooms_cmd.specs.Solving.{IsSolved, IsLeftOpen, IsNotPut}
 use Rattle.rooms_cmd.specs.Checking.{IsJudged, SaysVerified, SaysNot, SaysShared, IsRefusedWith, IsUnreadWith}
 use Rattle.rooms_cmd.specs.Measuring.{IsMeasured, IsIllegal}
+use Rattle.rooms_cmd.specs.Reporting.{IsReported}
+use Rattle.rooms_cmd.specs.Demonstrating.{IsDemonstrated, IsDemonstratedOpen}
 
 -- ---- why a text is printed with each status
 
--- what was asked for was found, or verified, or measured
+-- what was asked for was found, or verified, or measured, or reported
 abbrev pub IsDone : Shelved → Option Command → List ℕ → Type 0
 IsDone s (Some (Solve f certificate budget)) text = IsSolved s f certificate budget text
 IsDone s (Some (Check f certificate)) text = IsJudged s.told f certificate text SaysVerified
 IsDone s (Some (Recert f certificate new)) text = IsJudged s.told f certificate text (SaysShared s new)
 IsDone s (Some (Measure f)) text = IsMeasured s.told f text
+IsDone s (Some (Report f json)) text = IsReported s.told f json text
+IsDone s (Some (Demo courses budget)) text = IsDemonstrated courses budget text
 IsDone s None text = ⊥
 
 -- the certificate isn't valid, or the given rooms aren't legal
@@ -33,6 +37,7 @@ abbrev pub IsNo : Shelved → Option Command → List ℕ → Type 0
 IsNo s (Some (Check f certificate)) text = IsJudged s.told f certificate text SaysNot
 IsNo s (Some (Recert f certificate new)) text = IsJudged s.told f certificate text SaysNot
 IsNo s (Some (Measure f)) text = IsIllegal s.told f text
+IsNo s (Some (Report f json)) text = IsIllegal s.told f text
 IsNo s command text = ⊥
 
 -- the words are no command
@@ -40,9 +45,10 @@ abbrev pub IsUsage : Option Command → List ℕ → Type 0
 IsUsage None text = text ≡ usage_text
 IsUsage (Some command) text = ⊥
 
--- the budget of `solve` was spent
+-- the budget of `solve` or `demo` was spent
 abbrev pub IsOpen : Shelved → Work → Option Command → List ℕ → Type 0
 IsOpen s w (Some (Solve f certificate budget)) text = IsLeftOpen s w f certificate budget text
+IsOpen s w (Some (Demo courses budget)) text = IsDemonstratedOpen w courses budget text
 IsOpen s w command text = ⊥
 
 -- the first refusal of the command's files
@@ -51,6 +57,8 @@ IsBadInput s (Some (Solve f certificate budget)) text = AreRefusedForModel s.tol
 IsBadInput s (Some (Check f certificate)) text = IsRefusedWith s.told f certificate text
 IsBadInput s (Some (Recert f certificate new)) text = IsRefusedWith s.told f certificate text
 IsBadInput s (Some (Measure f)) text = AreRefused s.told f text
+IsBadInput s (Some (Report f json)) text = AreRefused s.told f text
+IsBadInput s (Some (Demo courses budget)) text = ⊥
 IsBadInput s None text = ⊥
 
 -- the first of the command's files that isn't read
@@ -59,6 +67,8 @@ IsUnread s (Some (Solve f certificate budget)) text = IsUnreadInput s f text
 IsUnread s (Some (Check f certificate)) text = IsUnreadWith s f certificate text
 IsUnread s (Some (Recert f certificate new)) text = IsUnreadWith s f certificate text
 IsUnread s (Some (Measure f)) text = IsUnreadInput s f text
+IsUnread s (Some (Report f json)) text = IsUnreadInput s f text
+IsUnread s (Some (Demo courses budget)) text = ⊥
 IsUnread s None text = ⊥
 
 -- the file that the command writes could not be put; there is no text
@@ -101,6 +111,8 @@ KeepsInputs s (Some (Solve f certificate budget)) = AreKept s f
 KeepsInputs s (Some (Check f certificate)) = AreKept s f × IsKept s certificate
 KeepsInputs s (Some (Recert f certificate new)) = AreKept s f × IsKept s certificate
 KeepsInputs s (Some (Measure f)) = AreKept s f
+KeepsInputs s (Some (Report f json)) = AreKept s f
+KeepsInputs s (Some (Demo courses budget)) = Unit {0}
 KeepsInputs s None = Unit {0}
 
 -- with these statuses nothing was put: every name holds what it held
@@ -110,6 +122,11 @@ KeepsWhereRefused s statuses.Usage = KeepsAll s
 KeepsWhereRefused s statuses.BadInput = KeepsAll s
 KeepsWhereRefused s statuses.ReadFault = KeepsAll s
 KeepsWhereRefused s status = Unit {0}
+
+-- `demo` makes no call of the shelf: it is as it was
+abbrev pub LeavesShelf : {S : Type 0} → S → S → Option Command → Type 0
+LeavesShelf old new (Some (Demo courses budget)) = new ≡ old
+LeavesShelf old new command = Unit {0}
 
 -- ---- which calls were made
 

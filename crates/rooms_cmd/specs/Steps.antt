@@ -1,5 +1,5 @@
 -- What the steps of the commands answer, once the three files are read.
-use Rattle.std.specs.Prelude.{ℕ, ℤ, pos, ◌≡◌, ◌⊎◌, true, List, [], Bool, Option, Some, IsTrue}
+use Rattle.std.specs.Prelude.{ℕ, ℤ, pos, ◌≡◌, ◌⊎◌, ◌-◌, ◌++◌, length, true, List, [], Bool, Option, Some, IsTrue}
 use Rattle.input_core.specs.Causes.{Rose}
 use Rattle.input_core.specs.Reading.{IsWhole}
 use Rattle.input_core.specs.declared.read.ReadRefusal.{ReadRefusal}
@@ -19,6 +19,7 @@ use Rattle.cert_text.specs.declared.lines.Certificate.{Certificate}
 use Rattle.cert_text.specs.Grammar.{is_writable}
 use Rattle.cert_text.specs.Text.{IsText}
 use Rattle.cert_text.specs.Sharing.{share, plain}
+use Rattle.cert_checker.specs.Verdicts.{IsValid}
 use Rattle.cert_checker.specs.declared.verdict.Verdict.{Verdict}
 use Rattle.cert_checker.specs.declared.verdict.Verdict.TheVariants.{Verified, Not}
 use Rattle.lex_driver.specs.Solving.{Solves}
@@ -32,7 +33,9 @@ use Rattle.run_core.specs.declared.answer.Stop.TheVariants as stops
 use Rattle.run_core.specs.declared.status.ToolStatus.{ToolStatus}
 use Rattle.run_core.specs.declared.status.ToolStatus.TheVariants as statuses
 use Rattle.reports.specs.Lines.{AreNamed, value_lines, room_fault_text}
-use Rattle.rooms_cmd.specs.Answers.{answer_text, optimal_line, open_line, verified_text, not_verified_text, long_certificate_text}
+use Rattle.rooms_cmd.specs.Answers.{answer_text, optimal_line, open_line, verified_line, verified_text, not_verified_text, long_certificate_text}
+use Rattle.rooms_cmd.specs.Demonstrating.{counts_text}
+use Rattle.rooms_cmd.specs.Reporting.{report_on}
 use Rattle.rooms_cmd.specs.Checking.{certificate_limit, IsLongCertificate, SaysVerified, SaysNot, SaysShared}
 use Rattle.rooms_cmd.specs.Work.{Work, begins}
 use Rattle.rooms_cmd.specs.declared.putting.Draft.{Draft}
@@ -172,3 +175,35 @@ abbrev pub RoomsExplain : Instance → Times → Measures → List ℕ → ToolS
 RoomsExplain i t m text statuses.Done = AreLegalRooms i t m text
 RoomsExplain i t m text statuses.No = AreIllegalRooms i t m text
 RoomsExplain i t m text status = ⊥
+
+-- ---- `report`
+
+-- the given rooms are legal, and the report on them is printed
+pub record AreReportedRooms (json : Bool) (i : Instance) (t : Times) (m : Measures) (text : List ℕ) : Type 0 where
+  pub legal : IsLegal (problem_of i t m) (given_rooms t)
+  pub is : text ≡ report_on json i t m
+
+abbrev pub ReportedRooms : Bool → Instance → Times → Measures → List ℕ → ToolStatus → Type 0
+ReportedRooms json i t m text statuses.Done = AreReportedRooms json i t m text
+ReportedRooms json i t m text statuses.No = AreIllegalRooms i t m text
+ReportedRooms json i t m text status = ⊥
+
+-- ---- `demo`
+
+-- the certificate is inside the bounds of its text, and valid for its finished levels, which are so many
+pub record IsVerifiable (p : Facts) (levels : ℕ) (c : Certificate) : Type 0 where
+  pub finished : length c.levels ≡ levels
+  pub writable : is_writable c ≡ true
+  pub valid : IsValid p (length c.levels) c
+
+abbrev pub AreVerifiable : Facts → Solved → Type 0
+AreVerifiable p (Optimal c) = IsVerifiable p 6 c
+AreVerifiable p (Open level c log) = IsVerifiable p (level - 1) c
+
+-- the counts, the verified levels, the first line and the values of what was found
+abbrev pub summary_text : ℕ → Instance → Times → Facts → ℕ → List ℕ → List ℤ → List ℕ
+summary_text n i t p levels first values = counts_text n i t p ++ verified_line levels ++ first ++ value_lines values
+
+abbrev pub IsSummary : ℕ → Instance → Times → Facts → Solved → List ℕ → ToolStatus → Type 0
+IsSummary n i t p (Optimal c) text status = (status ≡ statuses.Done) × (text ≡ summary_text n i t p 6 optimal_line c.values)
+IsSummary n i t p (Open level c log) text status = (status ≡ statuses.Open) × (text ≡ summary_text n i t p (level - 1) (open_line level) c.values)

@@ -4,10 +4,12 @@
 mod answers;
 mod check;
 mod command;
+mod demo;
 mod exit;
 mod measure;
 mod putting;
 mod recert;
+mod report;
 mod solve;
 mod texts;
 

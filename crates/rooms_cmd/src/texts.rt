@@ -10,6 +10,6 @@ pub fn usage(alloc: Global) -> Result<Vec<u8>, Memory>
 {
     Ok(Vec::from_slice(
         alloc,
-        b"usage:\nrooms solve INSTANCE TIMES MEASURES CERT [--budget N]\nrooms check INSTANCE TIMES MEASURES CERT\nrooms recert INSTANCE TIMES MEASURES CERT NEW\nrooms measure INSTANCE TIMES MEASURES\n",
+        b"usage:\nrooms solve INSTANCE TIMES MEASURES CERT [--budget N]\nrooms check INSTANCE TIMES MEASURES CERT\nrooms recert INSTANCE TIMES MEASURES CERT NEW\nrooms measure INSTANCE TIMES MEASURES\nrooms report INSTANCE TIMES MEASURES [--json]\nrooms demo N [--budget N]\n",
     )?)
 }

@@ -1,4 +1,4 @@
-use Rattle.rooms_cmd.proofs.QuietLaws.{quiet, accepted, enough, legal, illegal, valid, put}
+use Rattle.rooms_cmd.proofs.QuietLaws.{quiet, accepted, demo, demo_enough, enough, legal, illegal, valid, put}
 use Rattle.rooms_cmd.proofs.command.run.Goals as goal
 
 pub returns-clause-quiet : goal.returns-clause-quiet
@@ -21,3 +21,9 @@ returns-clause-put g c = put _ _ _ _ _ c.respond.ensures.ends
 
 pub returns-clause-valid : goal.returns-clause-valid
 returns-clause-valid g c = valid _ _ _ _ _ c.text_laws.ensures.read c.certificate_laws.ensures.faultless c.respond.ensures.ends
+
+pub returns-clause-demo : goal.returns-clause-demo
+returns-clause-demo g c = demo _ _ _ _ _ c.respond.ensures.ends
+
+pub returns-clause-demo_enough : goal.returns-clause-demo_enough
+returns-clause-demo_enough g c = demo_enough _ _ _ _ _ c.respond.ensures.ends
