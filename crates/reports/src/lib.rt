@@ -1,12 +1,17 @@
-//! The lines that the programs print of values, of faults and of meetings.
+//! What the programs print of values, of faults and of meetings, and the reports on rooms.
 #![tactic(auto)]
 
 mod faults;
 mod limits;
 mod meetings;
+mod report;
+mod room_use;
+mod session;
 mod six_values;
 
 pub use faults::{long_fault, room_fault};
 pub use limits::over_limit;
 pub use meetings::meeting_lines;
+pub use report::text_report;
+pub use session::{RoomUse, Session};
 pub use six_values::value_lines;
