@@ -1,7 +1,8 @@
-ghost use Rattle.std.specs.Prelude.{◌≡◌, ◌<◌, length, map, IfOk, true};
+ghost use Rattle.std.specs.Prelude.{◌≡◌, ◌<◌, [], ◌∷◌, length, map, IfOk, true};
+ghost use Rattle.serde_json.specs.Data.{string};
 ghost use Rattle.serde_json.specs.View.{view};
 ghost use Rattle.reports.specs.Rooms.{are_known, are_rooms};
-ghost use Rattle.reports.specs.Json.{session_data, sessions_data, used_data, room_with, course_with};
+ghost use Rattle.reports.specs.Json.{whole, session_data, sessions_data, used_data, room_with, course_with};
 
 use crate::session::Session;
 use ctt_reader::{Instance, course_name};
@@ -18,11 +19,27 @@ fn session_value(
     ensures { IfOk result (λ v. view v ≡ session_data instance.now session) }
 {
     let course = course_name(instance, session.course);
+    let mut parts = timed_parts(alloc, course, session.day, session.period)?;
     if 1 < session.hours {
-        json!(in alloc; [course, session.day, session.period, session.hours])
-    } else {
-        json!(in alloc; [course, session.day, session.period])
+        parts.push(Value::from(session.hours))?;
     }
+    Ok(Value::from(parts))
+}
+
+/// A course, a day and a period.
+fn timed_parts(
+    alloc: Global,
+    course: &str,
+    day: u32,
+    period: u32,
+) -> Result<Vec<Value>, AllocError>
+    ensures { IfOk result (λ v. map view v.items ≡ string course.now ∷ whole day ∷ whole period ∷ []) }
+{
+    let mut parts = Vec::new(alloc);
+    parts.push(Value::try_from_str(alloc, course)?)?;
+    parts.push(Value::from(day))?;
+    parts.push(Value::from(period))?;
+    Ok(parts)
 }
 
 /// The sessions, in their order.

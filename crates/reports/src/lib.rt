@@ -2,8 +2,8 @@
 #![tactic(auto)]
 
 mod faults;
+mod json_line;
 mod json_parts;
-mod json_report;
 mod limits;
 mod meetings;
 mod report;
@@ -12,7 +12,7 @@ mod session;
 mod six_values;
 
 pub use faults::{long_fault, room_fault};
-pub use json_report::json_report;
+pub use json_line::json_report;
 pub use limits::over_limit;
 pub use meetings::meeting_lines;
 pub use report::text_report;

@@ -22,6 +22,10 @@ const ONE: &[u8] =
 const TWO: &[u8] =
     b"Name: x\nCourses: 2\nRooms: 1\nDays: 1\nPeriods_per_day: 3\nCurricula: 0\nConstraints: 0\n\nCOURSES:\nC1 T1 1 1 10\nC2 T1 1 1 10\n\nROOMS:\nR1 20\n\nCURRICULA:\n\nUNAVAILABILITY_CONSTRAINTS:\n\nEND.\n";
 
+/// Courses of 10 and 20 students with two lectures each, rooms of 20 and 40 seats, a day of four periods.
+const SHARED_DAY: &[u8] =
+    b"Name: x\nCourses: 2\nRooms: 2\nDays: 1\nPeriods_per_day: 4\nCurricula: 0\nConstraints: 0\n\nCOURSES:\nAlgebra T1 2 1 10\nLogic T1 2 1 20\n\nROOMS:\nA1 20\nB2 40\n\nCURRICULA:\n\nUNAVAILABILITY_CONSTRAINTS:\n\nEND.\n";
+
 /// Neither a course nor a room.
 const NONE: &[u8] =
     b"Name: x\nCourses: 0\nRooms: 0\nDays: 1\nPeriods_per_day: 1\nCurricula: 0\nConstraints: 0\n\nCOURSES:\n\nROOMS:\n\nCURRICULA:\n\nUNAVAILABILITY_CONSTRAINTS:\n\nEND.\n";
@@ -145,7 +149,8 @@ fn reports_one_meeting_and_none(rt: HostRuntime) -> Result<(), Fail> {
     )
 }
 
-/// A meeting of two periods in the room beside one of one period without a room, and the other way round.
+/// A meeting of two periods beside one of one period without a room; then meetings of two periods with and without a
+/// room.
 #[test]
 fn reports_meetings_of_several_periods(rt: HostRuntime) -> Result<(), Fail> {
     let alloc = rt.alloc();
@@ -160,10 +165,10 @@ fn reports_meetings_of_several_periods(rt: HostRuntime) -> Result<(), Fail> {
     judge(
         &rt,
         alloc,
-        TWO,
-        b"C1 - 0 0\nC2 R1 0 1\n",
-        b"measures 2\nlength C1 2\n",
-        b"{\"courses\":[{\"name\":\"C1\",\"rooms\":[]},{\"name\":\"C2\",\"rooms\":[[\"R1\",1]]}],\"rooms\":[{\"capacity\":20,\"meetings\":[[\"C2\",0,1]],\"name\":\"R1\"}],\"unroomed\":[[\"C1\",0,0,2]],\"values\":[1,10,500,0,1,0]}\n",
+        SHARED_DAY,
+        b"Algebra A1 0 3\nLogic B2 0 0\nAlgebra A1 0 1\nLogic - 0 2\n",
+        b"measures 2\nlength Logic 2\n",
+        b"{\"courses\":[{\"name\":\"Algebra\",\"rooms\":[[\"A1\",2]]},{\"name\":\"Logic\",\"rooms\":[[\"B2\",1]]}],\"rooms\":[{\"capacity\":20,\"meetings\":[[\"Algebra\",0,1],[\"Algebra\",0,3]],\"name\":\"A1\"},{\"capacity\":40,\"meetings\":[[\"Logic\",0,0,2]],\"name\":\"B2\"}],\"unroomed\":[[\"Logic\",0,2,2]],\"values\":[4,60,2000,0,2,0]}\n",
     )
 }
 

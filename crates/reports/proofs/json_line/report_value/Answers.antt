@@ -2,7 +2,7 @@ use Rattle.std.proofs.Common.{◌≡◌, ◌∙◌, [], ap, slice_index_or}
 use Rattle.serde_json.specs.View.{view, members_view}
 use Rattle.reports.specs.Json.{courses_data, rooms_data, sessions_data}
 use Rattle.reports.proofs.JsonLaws.{four_members, same_report}
-use Rattle.reports.proofs.json_report.report_value.Goals as goal
+use Rattle.reports.proofs.json_line.report_value.Goals as goal
 
 pub returns : goal.returns
 returns c =
