@@ -1,6 +1,6 @@
 -- A report's JSON has no float, and is the same for lists that are the same.
 use Rattle.std.proofs.lemmas.Int.{ints}
-use Rattle.std.proofs.Common.{ℕ, ℤ, pos, negsuc, Bool, true, false, ◌||◌, ◌≡◌, ◌<◌, ◌++◌, if◌then◌else◌, List, [], ◌∷◌, map, length, codes, slice_index_or, ap, ap₂, refl, arith, zero, suc, ◌∙◌}
+use Rattle.std.proofs.Common.{ℕ, ℤ, pos, negsuc, Bool, true, false, ◌||◌, ◌≡◌, ◌++◌, if◌then◌else◌, List, [], ◌∷◌, map, length, codes, slice_index_or, ap, refl, arith, zero, suc, ◌∙◌}
 use Rattle.std.specs.List.{AllByRecursion}
 use Rattle.serde_json.specs.Data.{Data, number, object, Members, member, no_members, put}
 use Rattle.serde_json.specs.Find.{of_integer}
@@ -11,14 +11,11 @@ use Rattle.ctt_reader.specs.declared.instance.Instance.{Instance}
 use Rattle.reports.specs.declared.session.Session.{Session}
 use Rattle.reports.specs.declared.session.RoomUse.{RoomUse}
 use Rattle.reports.specs.Rooms.{each_below, in_room, rooms_of, without_room, IsRoomUse}
+use Rattle.reports.proofs.ListLaws.{each_below-same}
 use Rattle.reports.specs.Json.{whole, list, hours_data, session_data, sessions_data, used_data, room_with, course_with, rooms_data, courses_data, printed, values_data, report_of, kept_report, sessions_report}
 
 pub same_report : (a a' b b' c c' d d' : Data) → a ≡ a' → b ≡ b' → c ≡ c' → d ≡ d' → report_of a b c d ≡ report_of a' b' c' d'
 same_report a a' b b' c c' d d' p q r t = ap (λ x. report_of x b c d) p ∙ ap (λ x. report_of a' x c d) q ∙ ap (λ x. report_of a' b' x d) r ∙ ap (λ x. report_of a' b' c' x) t
-
-pub each_below-same : {A : Type 0} (f g : ℕ → List A) (n : ℕ) → ((k : ℕ) → k < n → f k ≡ g k) → each_below f n ≡ each_below g n
-each_below-same f g zero h = refl
-each_below-same f g (suc n) h = ap₂ (λ x y. x ++ y) (each_below-same f g n (λ k l. h k (omega arith))) (h n (omega arith))
 
 both_false : (a b : Bool) → a ≡ false → b ≡ false → (a || b) ≡ false
 both_false false b h k = k

@@ -1,7 +1,10 @@
 //! What the programs print of values, of faults and of meetings, and the reports on rooms.
 #![tactic(auto)]
 
+mod by_course;
+mod by_room;
 mod faults;
+mod groups;
 mod json_line;
 mod json_parts;
 mod limits;
