@@ -18,15 +18,14 @@ filter-each_below {A} p piece (suc n) = filter-append p (each_below piece n) (pi
 
 pub filter-filter : {A : Type 0} (p q : A → Bool) (xs : List A) → filter p (filter q xs) ≡ filter (λ x. p x && q x) xs
 filter-filter p q [] = refl
-filter-filter {A} p q (x ∷ xs) = step (p x) (q x) refl
+filter-filter {A} p q (x ∷ xs) = step (p x) (q x) (filter-filter p q xs) refl
   where
-    rest : filter p (filter q xs) ≡ filter (λ y. p y && q y) xs
-    rest = filter-filter p q xs
-    step : (b c : Bool) → p x ≡ b → filter p (cond c (x ∷ filter q xs) (filter q xs)) ≡ cond (b && c) (x ∷ filter (λ y. p y && q y) xs) (filter (λ y. p y && q y) xs)
-    step true true here = rw (here) (ap (λ (ys : List A). x ∷ ys) rest)
-    step true false here = rest
-    step false true here = rw (here) rest
-    step false false here = rest
+    step : (b c : Bool) → filter p (filter q xs) ≡ filter (λ y. p y && q y) xs → p x ≡ b
+        → filter p (cond c (x ∷ filter q xs) (filter q xs)) ≡ cond (b && c) (x ∷ filter (λ y. p y && q y) xs) (filter (λ y. p y && q y) xs)
+    step true true rest here = rw (here) (ap (λ (ys : List A). x ∷ ys) rest)
+    step true false rest here = rest
+    step false true rest here = rw (here) rest
+    step false false rest here = rest
 
 pub all-append : {X : Type 0} (p : X → Bool) (xs ys : List X) → list_all p xs ≡ true → list_all p ys ≡ true → list_all p (xs ++ ys) ≡ true
 all-append p [] ys h k = k
