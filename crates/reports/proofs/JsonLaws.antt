@@ -1,12 +1,9 @@
 -- A report's JSON has no float, and is the same for lists that are the same.
-use Rattle.std.proofs.lemmas.Int.{ints}
-use Rattle.std.proofs.Common.{ℕ, ℤ, pos, negsuc, Bool, true, false, ◌||◌, ◌≡◌, ◌++◌, if◌then◌else◌, List, [], ◌∷◌, map, length, codes, slice_index_or, ap, refl, arith, zero, suc, ◌∙◌}
-use Rattle.std.specs.List.{AllByRecursion}
+use Rattle.std.proofs.Common.{ℕ, ℤ, pos, negsuc, Bool, true, false, ◌||◌, ◌≡◌, ◌++◌, if◌then◌else◌, List, [], ◌∷◌, map, length, codes, slice_index_or, ap, refl, zero, suc, ◌∙◌}
 use Rattle.serde_json.specs.Data.{Data, number, object, Members, member, no_members, put}
 use Rattle.serde_json.specs.Find.{of_integer}
 use Rattle.serde_json.specs.View.{items_of}
 use Rattle.serde_json.specs.Written.{has_float, items_have_float}
-use Rattle.problem_core.specs.Kept.{IsWithin}
 use Rattle.ctt_reader.specs.declared.instance.Instance.{Instance}
 use Rattle.reports.specs.declared.session.Session.{Session}
 use Rattle.reports.specs.declared.session.RoomUse.{RoomUse}
@@ -101,7 +98,3 @@ kept_is i xs u v h =
         (λ r l. ap (λ those. room_with i r those ∷ []) (h.in_rooms r l))) in
     let unroomed : sessions_data i u.unroomed ≡ sessions_data i (without_room xs) = ap (sessions_data i) h.unroomed in
     same_report _ _ _ _ _ _ (values_data v) (values_data v) courses rooms unroomed refl
-
-pub small_values : (values : List ℤ) → AllByRecursion (IsWithin (pos 192000000000)) values → AllByRecursion (IsWithin (pos 1000000000000)) values
-small_values [] h = tt
-small_values (z ∷ zs) h = (record { low = omega (arith, ints, h.0.low); high = omega (arith, ints, h.0.high) }, small_values zs h.1)

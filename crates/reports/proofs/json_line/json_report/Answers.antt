@@ -4,7 +4,8 @@ use Rattle.serde_json.specs.Written.{compact_text}
 use Rattle.serde_json.specs.Data.{Data}
 use Rattle.reports.specs.Rooms.{sessions}
 use Rattle.reports.specs.Json.{sessions_report}
-use Rattle.reports.proofs.JsonLaws.{kept_is, small_values}
+use Rattle.reports.proofs.ValueLaws.{small_values}
+use Rattle.reports.proofs.JsonLaws.{kept_is}
 use Rattle.reports.proofs.json_line.json_report.Goals as goal
 
 pub kept_line-requires-clause-values : goal.kept_line-requires-clause-values
