@@ -91,10 +91,10 @@ four_members m0 m1 m2 m3 m4 a b c d e0 e1 e2 e3 e4 =
 pub kept_is : (i : Instance) (xs : List Session) (u : RoomUse) (v : List ℤ) → IsRoomUse i xs u → kept_report i u v ≡ sessions_report i xs v
 kept_is i xs u v h =
     let courses : courses_data i (λ c. slice_index_or u.by_course.items c []) ≡ courses_data i (rooms_of i xs) =
-        ap list (each_below-same (λ c. course_with i c (slice_index_or u.by_course.items c []) ∷ []) (λ c. course_with i c (rooms_of i xs c) ∷ []) (length i.courses)
-        (λ c l. ap (λ pairs. course_with i c pairs ∷ []) (h.of_courses c l))) in
+    ap list (each_below-same (λ c. course_with i c (slice_index_or u.by_course.items c []) ∷ []) (λ c. course_with i c (rooms_of i xs c) ∷ []) (length i.courses)
+    (λ c l. ap (λ pairs. course_with i c pairs ∷ []) (h.of_courses c l))) in
     let rooms : rooms_data i (λ r. slice_index_or u.by_room.items r []) ≡ rooms_data i (in_room i xs) =
-        ap list (each_below-same (λ r. room_with i r (slice_index_or u.by_room.items r []) ∷ []) (λ r. room_with i r (in_room i xs r) ∷ []) (length i.rooms)
-        (λ r l. ap (λ those. room_with i r those ∷ []) (h.in_rooms r l))) in
+    ap list (each_below-same (λ r. room_with i r (slice_index_or u.by_room.items r []) ∷ []) (λ r. room_with i r (in_room i xs r) ∷ []) (length i.rooms)
+    (λ r l. ap (λ those. room_with i r those ∷ []) (h.in_rooms r l))) in
     let unroomed : sessions_data i u.unroomed ≡ sessions_data i (without_room xs) = ap (sessions_data i) h.unroomed in
     same_report _ _ _ _ _ _ (values_data v) (values_data v) courses rooms unroomed refl

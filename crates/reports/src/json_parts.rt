@@ -10,11 +10,7 @@ use serde_json::{Value, json};
 use std::alloc::{AllocError, Global};
 
 /// The course, the day and the period of a session, and its hours where they are more than 1.
-fn session_value(
-    alloc: Global,
-    instance: &Instance,
-    session: Session,
-) -> Result<Value, AllocError>
+fn session_value(alloc: Global, instance: &Instance, session: Session) -> Result<Value, AllocError>
     requires { session.course < length instance.now.courses }
     ensures { IfOk result (λ v. view v ≡ session_data instance.now session) }
 {
@@ -27,12 +23,7 @@ fn session_value(
 }
 
 /// A course, a day and a period.
-fn timed_parts(
-    alloc: Global,
-    course: &str,
-    day: u32,
-    period: u32,
-) -> Result<Vec<Value>, AllocError>
+fn timed_parts(alloc: Global, course: &str, day: u32, period: u32) -> Result<Vec<Value>, AllocError>
     ensures { IfOk result (λ v. map view v.items ≡ string course.now ∷ whole day ∷ whole period ∷ []) }
 {
     let mut parts = Vec::new(alloc);
