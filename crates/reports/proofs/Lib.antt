@@ -1,1 +1,4 @@
 pub mod ValueLaws
+pub mod JsonLaws
+pub mod ListLaws
+pub mod RoomLaws

@@ -29,3 +29,8 @@ six_lines b0 b1 b2 b3 b4 b5 b6 l1 l2 l3 l4 l5 l6 e0 e1 e2 e3 e4 e5 e6 =
     let d4 : b4 ≡ l1 ++ l2 ++ l3 ++ l4 = e4 ∙ ap (λ b. b ++ l4) d3 in
     let d5 : b5 ≡ l1 ++ l2 ++ l3 ++ l4 ++ l5 = e5 ∙ ap (λ b. b ++ l5) d4 in
     e6 ∙ ap (λ b. b ++ l6) d5
+
+-- the measures of a legal choice are small enough to be printed
+pub small_values : (vs : List ℤ) → AllByRecursion (IsWithin (pos 192000000000)) vs → AllByRecursion (IsWithin (pos 1000000000000)) vs
+small_values [] h = tt
+small_values (v ∷ vs) h = (record { low = omega (arith, ints, h.0.low); high = omega (arith, ints, h.0.high) }, small_values vs h.1)

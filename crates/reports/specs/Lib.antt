@@ -1,1 +1,5 @@
 pub mod Lines
+pub mod Rooms
+pub mod Report
+pub mod Json
+pub mod Groups

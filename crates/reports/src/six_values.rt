@@ -23,7 +23,7 @@ pub fn value_lines(alloc: Global, values: &[i64; 6]) -> Result<Vec<u8>, Memory>
 }
 
 /// The value with its sign turned.
-fn turned(value: i64) -> i64
+pub(crate) fn turned(value: i64) -> i64
     requires { IsWithin (pos 1000000000000) value }
     ensures { result ≡ neg_ℤ value }
 {
