@@ -2,8 +2,14 @@
 //! their problem.
 #![tactic(auto)]
 
-mod generator;
+mod files;
+mod instance;
+mod laws;
+mod measures;
 mod modelled;
+mod texts;
+mod times;
 
-pub use generator::{demo_files, demo_laws};
+pub use files::demo_files;
+pub use laws::demo_laws;
 pub use modelled::demo_model;
