@@ -1,5 +1,5 @@
 -- Times with the rooms that they give.
-use Rattle.std.proofs.Common.{ℕ, ◌≡◌, Bool, true, ◌&&◌, refl, ap, List, [], ◌∷◌, length, map}
+use Rattle.std.proofs.Common.{◌≡◌, true, ◌&&◌, refl, ap, List, [], ◌∷◌, length, map}
 use Rattle.std.specs.Prelude.{nat_lt, nat_le}
 use Rattle.std.specs.List.{list_all}
 use Rattle.std.proofs.lemmas.Bool.{and_parts, and_from}

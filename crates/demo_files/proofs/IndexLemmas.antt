@@ -1,5 +1,5 @@
 -- Lists that are given index by index.
-use Rattle.std.proofs.Common.{ℕ, zero, suc, ◌≡◌, ◌+◌, ◌<◌, ◌≤◌, inl, inr, Bool, true, false, not, cond, ◌&&◌, refl, arith, ap, sym, ◌∙◌, subst, List, [], ◌∷◌, ◌++◌, length, get_or, map, add-one, append_assoc}
+use Rattle.std.proofs.Common.{ℕ, zero, suc, ◌≡◌, ◌+◌, ◌<◌, inl, inr, Bool, true, false, not, cond, refl, arith, ap, sym, ◌∙◌, List, [], ◌∷◌, ◌++◌, length, get_or, map, add-one, append_assoc}
 use Rattle.std.specs.List.{list_all, list_any, flat_map, count_by}
 use Rattle.std.proofs.lemmas.Bool.{cases_eq, and_parts, and_from, not-true}
 use Rattle.std.proofs.lemmas.List.{length_push, get_or_push, get_or_append_left, map_push, flat_map_more, get_or-map, length-map}

@@ -1,9 +1,7 @@
 -- The instance is such as the reader of instance files gives.
-use Rattle.std.proofs.Common.{ℕ, ◌≡◌, ◌<◌, ◌≤◌, ◌+◌, ◌*◌, Bool, true, false, not, ◌&&◌, refl, arith, ap, sym, ◌∙◌, List, [], ◌∷◌, length, map}
+use Rattle.std.proofs.Common.{ℕ, ◌≡◌, ◌<◌, ◌≤◌, ◌+◌, ◌*◌, Bool, true, not, ◌&&◌, refl, arith, ap, ◌∙◌, List, [], ◌∷◌, map}
 use Rattle.std.specs.Prelude.{decimal, bytes_eq, codes, nat_le}
-use Rattle.std.specs.List.{list_all}
-use Rattle.std.proofs.lemmas.Bool.{and_from, le-leb}
-use Rattle.ctt_reader.specs.Entries.{course_names, room_names}
+use Rattle.std.proofs.lemmas.Bool.{le-leb}
 use Rattle.ctt_reader.specs.Promised.{is_name, is_course, is_room, are_different, IsInstance}
 use Rattle.ctt_reader.specs.declared.instance.Course.{Course}
 use Rattle.ctt_reader.specs.declared.instance.Room.{Room}

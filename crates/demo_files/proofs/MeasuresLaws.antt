@@ -1,10 +1,9 @@
 -- The measures are such as the reader of measures files gives.
-use Rattle.std.proofs.Common.{ℕ, ◌≡◌, ◌<◌, ◌≤◌, ◌%◌, Bool, true, not, ◌&&◌, refl, arith, List, [], ◌∷◌, length, map}
+use Rattle.std.proofs.Common.{ℕ, ◌≡◌, ◌<◌, ◌%◌, Bool, true, ◌&&◌, refl, arith, length, map}
 use Rattle.std.specs.Prelude.{◌==◌, pos, nat_lt}
-use Rattle.std.specs.List.{list_all}
 use Rattle.std.proofs.lemmas.Bool.{and_left, lt-ltb, ne_eqb, not_from_false}
 use Rattle.measure_file.specs.Grammar.{same_pair}
-use Rattle.measure_file.specs.Promised.{is_points, is_preference, other_pair, all_pairs, AreMeasures}
+use Rattle.measure_file.specs.Promised.{is_points, is_preference, other_pair, AreMeasures}
 use Rattle.demo_files.specs.Generator.{indices, course_at, room_at, preference_at, measures_of, instance_of}
 use Rattle.demo_files.proofs.IndexLemmas.{length-mapped, all-at, pairs-at}
 

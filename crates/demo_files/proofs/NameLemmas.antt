@@ -1,7 +1,7 @@
 -- Names of a letter and a number.
-use Rattle.std.proofs.Common.{ℕ, ◌≡◌, ◌≢◌, ◌<◌, ◌≤◌, ◌+◌, ◌^◌, Bool, true, false, not, refl, arith, ap, List, [], ◌∷◌, length, map}
+use Rattle.std.proofs.Common.{ℕ, ◌≡◌, ◌<◌, ◌≤◌, ◌^◌, true, not, refl, arith, ap, List, [], ◌∷◌, length, map}
 use Rattle.std.specs.Prelude.{decimal, bytes_eq, nat_le}
-use Rattle.std.specs.List.{list_all, list_any}
+use Rattle.std.specs.List.{list_all}
 use Rattle.std.specs.Cmp.Lexicographic.{bytes_decides}
 use Rattle.std.proofs.lemmas.Bool.{and_parts, and_from, le-leb, ne_eqb, false_from_ne_true, not_from_false}
 use Rattle.std.proofs.lemmas.Fmt.{length-decimal-le, decimal_injective}

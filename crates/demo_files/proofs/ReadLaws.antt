@@ -1,5 +1,5 @@
 -- What is read back from the texts of the input is the input.
-use Rattle.std.proofs.Common.{ℕ, ◌≡◌, refl, ap, sym, ◌∙◌, List}
+use Rattle.std.proofs.Common.{ℕ, ◌≡◌, ap, sym, ◌∙◌, List}
 use Rattle.std.specs.Prelude.{Ok}
 use Rattle.input_core.proofs.ChainLemmas.{ok-same}
 use Rattle.ctt_reader.specs.Grammar.{ctt_of}

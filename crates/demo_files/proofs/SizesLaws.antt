@@ -1,10 +1,9 @@
 -- There are few meetings, and no limit is passed.
-use Rattle.std.proofs.Common.{ℕ, zero, suc, ◌≡◌, ◌<◌, ◌≤◌, ◌+◌, ◌*◌, ◌/◌, ◌%◌, ◌^◌, ◌++◌, inl, inr, Bool, true, false, cond, ◌&&◌, refl, arith, ap, sym, ◌∙◌, subst, List, [], ◌∷◌, length, map, get_or, take}
-use Rattle.std.specs.Prelude.{◌==◌, nat_lt, nat_le, None, if◌then◌else◌}
-use Rattle.std.specs.List.{flat_map, count_by}
-use Rattle.std.proofs.lemmas.Bool.{cases_lt, cases_Bool, and_parts, le-ltb, lt-leb, leb-true, eqb-true, false_from_ne_true}
+use Rattle.std.proofs.Common.{ℕ, zero, suc, ◌≡◌, ◌<◌, ◌≤◌, ◌+◌, ◌*◌, ◌/◌, ◌%◌, ◌^◌, ◌++◌, inl, inr, Bool, true, false, refl, arith, ap, sym, ◌∙◌, subst, List, [], ◌∷◌, length, map, get_or, take}
+use Rattle.std.specs.Prelude.{◌==◌, nat_lt, None}
+use Rattle.std.specs.List.{count_by}
+use Rattle.std.proofs.lemmas.Bool.{cases_lt, cases_Bool, and_parts, le-ltb, leb-true, eqb-true, false_from_ne_true}
 use Rattle.std.proofs.lemmas.List.{length-map, length-append, length-take, length_push, take_more, take_all, get_or-map}
-use Rattle.std.proofs.Math.Nat.{mul-le-mul_right}
 use Rattle.numbers.specs.Below.{first_from}
 use Rattle.problem_core.specs.Facts.{Facts, Event, event_at, no_event}
 use Rattle.problem_core.specs.OfParts.{event_of}
@@ -15,9 +14,8 @@ use Rattle.problem_core.specs.Limits.{limit_of, course_limit}
 use Rattle.meeting_patterns.specs.Pattern.{IsBefore, ArePatterns, pattern, pattern_at, masks_at, is_mask, in_rooms, in_courses, patterns_of}
 use Rattle.meeting_patterns.specs.declared.pattern.Pattern.{Pattern}
 use Rattle.meeting_patterns.proofs.ListLemmas.{patterns_are}
-use Rattle.packing_model.specs.declared.row.Row.{Row}
 use Rattle.packing_model.specs.declared.row.Row.TheVariants.{Event as EventRow, RoomSlot, CourseRoom}
-use Rattle.packing_model.specs.Rows.{stands_in, standing, has_some, has_two, event_rows, slot_rows, course_rows, base_rows}
+use Rattle.packing_model.specs.Rows.{stands_in, has_some, has_two, event_rows, slot_rows, course_rows}
 use Rattle.packing_model.specs.Built.{rows_of, model_limit}
 use Rattle.ctt_reader.specs.declared.instance.Course.{Course}
 use Rattle.ctt_reader.specs.declared.instance.Room.{Room}

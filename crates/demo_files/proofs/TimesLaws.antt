@@ -1,8 +1,8 @@
 -- The times are such as the reader of timed solutions gives: a meeting is known, no two of a course are in one slot, and
 -- a course has as many as its lectures.
-use Rattle.std.proofs.Common.{ℕ, zero, suc, ◌≡◌, ◌<◌, ◌≤◌, ◌+◌, ◌*◌, ◌/◌, ◌%◌, inl, inr, Bool, true, false, not, cond, ◌&&◌, refl, arith, ap, sym, ◌∙◌, List, [], ◌∷◌, ◌++◌, length, map, get_or}
+use Rattle.std.proofs.Common.{ℕ, zero, suc, ◌≡◌, ◌<◌, ◌≤◌, ◌+◌, ◌/◌, ◌%◌, inl, inr, Bool, true, not, cond, ◌&&◌, refl, arith, ap, ◌∙◌, List, [], ◌∷◌, length, map}
 use Rattle.std.specs.Prelude.{◌==◌, nat_lt, nat_le}
-use Rattle.std.specs.List.{list_all, list_any, flat_map, count_by}
+use Rattle.std.specs.List.{list_all, list_any, flat_map}
 use Rattle.std.proofs.lemmas.Bool.{cases_lt, cases_eq, and_parts, and_from, and_left, lt-ltb, eqb-true, ne_eqb, eq-eqb, false_from_ne_true, not_from_false}
 use Rattle.timed_solution.specs.Times.{is_meeting, same_time, held_of, lectures_of, are_apart, AreTimes}
 use Rattle.timed_solution.specs.declared.times.Meeting.{Meeting}

@@ -28,6 +28,7 @@ pub fn demo_model(alloc: Global, n: u32) -> Result<Loaded, Memory>
     ensures instance { IfOk result (λ l. l.instance ≡ instance_of n) }
     ensures times { IfOk result (λ l. l.times ≡ times_of n) }
     ensures measures { IfOk result (λ l. l.measures ≡ measures_of n) }
+    ensures known { IfOk result (λ l. IsInstance l.instance) }
     ensures fits { IfOk result (λ l. AreTimes l.instance l.times.meetings) }
     ensures model { IfOk result (λ l. IsModel l.instance l.times l.measures l.model) }
 {

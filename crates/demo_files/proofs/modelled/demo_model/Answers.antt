@@ -11,6 +11,9 @@ returns-clause-times c = IfOk-weaker c.read_back.result _ _ (λ l is. times_agai
 pub returns-clause-measures : goal.returns-clause-measures
 returns-clause-measures c = IfOk-weaker c.read_back.result _ _ (λ l is. measures_again c.args.n _ _ _ l is c.in_ok-texts.ensures.instance c.in_ok-texts.ensures.measures) c.read_back.ensures
 
+pub returns-clause-known : goal.returns-clause-known
+returns-clause-known c = IfOk-weaker c.read_back.result _ _ (λ l is. is.known) c.read_back.ensures
+
 pub returns-clause-fits : goal.returns-clause-fits
 returns-clause-fits c = IfOk-weaker c.read_back.result _ _ (λ l is. is.fits) c.read_back.ensures
 

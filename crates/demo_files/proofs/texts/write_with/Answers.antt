@@ -1,5 +1,5 @@
-use Rattle.std.proofs.Common.{◌≡◌, ap, ◌∙◌, sym, subst, true}
-use Rattle.std.specs.Prelude.{List, ℕ, Ok, length}
+use Rattle.std.proofs.Common.{ap, ◌∙◌}
+use Rattle.std.specs.Prelude.{Ok, length}
 use Rattle.std.specs.List.{list_all}
 use Rattle.timed_solution.specs.Writing.{is_entry, with_rooms}
 use Rattle.demo_files.proofs.GivenLemmas.{given_known, given_count, given_again}
