@@ -1,5 +1,5 @@
-//! Worked cases of the outside of the program, of the readers and writers of its files, of the score, of the page
-//! of a week, and of the text of a certificate, through the public calls of their crates: tests alone.
+//! Worked cases of the outside of the program, of the readers and writers of its files, of reports, of the score, of
+//! the page of a week, and of the text of a certificate, through the public calls of their crates: tests alone.
 #![tactic(auto)]
 
 #[cfg(test)]
@@ -10,6 +10,8 @@ mod instance;
 mod measures;
 #[cfg(test)]
 mod outside;
+#[cfg(test)]
+mod report;
 #[cfg(test)]
 mod score;
 #[cfg(test)]
