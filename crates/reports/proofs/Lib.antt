@@ -1,3 +1,4 @@
 pub mod ValueLaws
 pub mod ListLaws
 pub mod RoomLaws
+pub mod StandingLaws

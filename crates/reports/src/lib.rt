@@ -5,6 +5,7 @@ mod by_course;
 mod by_room;
 mod faults;
 mod groups;
+mod laws;
 mod limits;
 mod meetings;
 mod report;
@@ -13,6 +14,7 @@ mod session;
 mod six_values;
 
 pub use faults::{long_fault, room_fault};
+pub use laws::report_laws;
 pub use limits::over_limit;
 pub use meetings::meeting_lines;
 pub use report::text_report;
