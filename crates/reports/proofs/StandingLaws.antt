@@ -6,8 +6,8 @@ use Rattle.std.proofs.lemmas.Bool.{and_parts, cases_eq, cases_Bool, eq-eqb, ne_e
 use Rattle.std.proofs.lemmas.Bool.Decides.{nat_tests}
 use Rattle.std.proofs.lemmas.List.Sums.{sum_by-cons, sum_by-append}
 use Rattle.ctt_reader.specs.declared.instance.Instance.{Instance}
-use Rattle.reports.specs.Rooms.{each_below, in_room, begins_in, has_none, without_room}
-use Rattle.reports.specs.Groups.{AreFit, is_fit, number_of}
+use Rattle.reports.specs.Rooms.{each_below, in_room, has_none, without_room}
+use Rattle.reports.specs.Groups.{AreFit, is_fit}
 use Rattle.reports.specs.Standing.{in_rooms, EachStandsOnce}
 use Rattle.reports.specs.declared.session.Session.{Session}
 use Rattle.reports.specs.declared.groups.Grouping.TheVariants.{ByEntry, BySlot}
