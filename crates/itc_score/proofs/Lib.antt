@@ -2,6 +2,5 @@ mod SumLemmas
 mod LineLemmas
 mod TableLemmas
 mod PackedLemmas
-mod RunLaws
-mod CallLaws
-mod ExitLaws
+mod TextLemmas
+pub mod RunLaws

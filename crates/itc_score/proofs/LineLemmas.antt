@@ -2,9 +2,9 @@
 use Rattle.std.proofs.Common.{ℕ, ◌≡◌, ◌+◌, ◌-◌, ◌*◌, ◌/◌, ◌<◌, ◌≤◌, arith, refl, sym, ◌∙◌, ap, ap₂, subst, zero, suc, Bool, true, false, not, cond, ◌&&◌, ◌||◌, List, [], ◌∷◌, length, map, get_or, inl, inr}
 use Rattle.std.specs.Prelude.{◌==◌, nat_lt, nat_le, slice_index_or, bytes_eq}
 use Rattle.std.specs.List.{count_by, sum_by, list_any, list_all, All}
-use Rattle.std.proofs.lemmas.Bool.{and_parts, and_from, eq-eqb, eqb-true, cases_Bool, true≢false}
+use Rattle.std.proofs.lemmas.Bool.{and_parts, and_from, eq-eqb, eqb-true, ltb-true, leb-true, lt-ltb, not-true, cases_Bool, true≢false}
 use Rattle.std.proofs.lemmas.Bool.Decides.{nat_tests}
-use Rattle.std.proofs.Math.Bool.{and_comm}
+use Rattle.std.proofs.Math.Bool.{and_comm, and-false}
 use Rattle.problem_core.specs.Facts.{is_pair}
 use Rattle.problem_core.specs.Tables.{IsGrid}
 use Rattle.ctt_reader.specs.declared.instance.Instance.{Instance}
@@ -12,12 +12,13 @@ use Rattle.ctt_reader.specs.declared.instance.Course.{Course}
 use Rattle.ctt_reader.specs.declared.instance.Curriculum.{Curriculum}
 use Rattle.ctt_reader.specs.Naming.{no_course}
 use Rattle.ctt_reader.specs.Promised.{IsInstance, is_constraint, is_course}
+use Rattle.ctt_reader.proofs.NameLemmas.{list_any-map}
 use Rattle.timed_solution.specs.declared.times.Meeting.{Meeting}
 use Rattle.timed_solution.specs.Times.{AreTimes, is_meeting, same_time, are_apart, held_of, lectures_of}
 use Rattle.itc_score.specs.Sums.{sum_below, count_below, count_pairs}
 use Rattle.itc_score.specs.Score.{course, missing_lectures, in_one_slot, are_related, are_in_conflict, have_one_teacher, are_in_one_curriculum, is_member, is_unavailable, is_taught_on, missing_days, are_next, stands_alone, alone_in, is_taught_in, rooms_used}
 use Rattle.itc_score.specs.Places.{place, place_of, fits, is_at, held_at, alone_up_to, alone_among, are_known, course_place, place_course, course_day, course_room, closed_place, known_related}
-use Rattle.itc_score.proofs.SumLemmas.{sum_below-same, sum_below-less, sum_below-bound, count-cons, count-same, any-same, count-split, pairs-twice, any-none, any-or, any-map, sum_by-all}
+use Rattle.itc_score.proofs.SumLemmas.{sum_below-same, sum_below-less, sum_below-bound, count-cons, count-same, any-same, count-split, pairs-twice, any-none, any-or, sum_by-all}
 
 -- ---- tests
 
@@ -32,19 +33,13 @@ pub record IsFit (courses rooms : ℕ) (m : Meeting) : Type 0 where
   pub day : m.day < 14
   pub period : m.period < 48
 
-below : (k n : ℕ) → nat_lt k n ≡ true → k < n
-below k n h = grind (arith, nat_tests, h)
-
-lt-test : (k n : ℕ) → k < n → nat_lt k n ≡ true
-lt-test k n h = grind (arith, nat_tests, h)
-
 pub fit-is : (c r : ℕ) (m : Meeting) → fits c r m ≡ true → IsFit c r m
 fit-is c r m h =
     let a = and_parts (nat_lt m.course c) (nat_lt m.room (r + 1) && (nat_lt m.day 14 && nat_lt m.period 48)) h in
     let b = and_parts (nat_lt m.room (r + 1)) (nat_lt m.day 14 && nat_lt m.period 48) a.1 in
     let d = and_parts (nat_lt m.day 14) (nat_lt m.period 48) b.1 in
-    let room = below m.room (r + 1) b.0 in
-    record { course = below m.course c a.0; room = omega (arith, room); day = below m.day 14 d.0; period = below m.period 48 d.1 }
+    let room = ltb-true m.room (r + 1) b.0 in
+    record { course = ltb-true m.course c a.0; room = omega (arith, room); day = ltb-true m.day 14 d.0; period = ltb-true m.period 48 d.1 }
 
 -- different slots have different places
 pub same_place : (a b c d : ℕ) → b < 48 → d < 48 → (place a b == place c d) ≡ ((a == c) && (b == d))
@@ -91,10 +86,6 @@ at-moved c p m x h =
 count-none : {X : Type 0} (p : X → Bool) (xs : List X) → list_any p xs ≡ false → count_by p xs ≡ 0
 count-none p xs h = eqb-true (count_by p xs) 0 (sym (any-none p xs) ∙ ap not h)
 
-not-false : (b : Bool) → not b ≡ true → b ≡ false
-not-false true h = sym h
-not-false false h = refl
-
 pub count-at : (k r : ℕ) (lines : List Meeting) (c p : ℕ) → list_all (fits k r) lines ≡ true → are_apart lines ≡ true → count_by (is_at c p) lines ≡ cond (list_any (is_at c p) lines) 1 0
 count-at k r [] c p all apart = refl
 count-at k r (m ∷ lines) c p all apart = count-cons (is_at c p) m lines ∙ elim (cases_Bool (is_at c p m)) [
@@ -103,7 +94,7 @@ count-at k r (m ∷ lines) c p all apart = count-cons (is_at c p) m lines ∙ el
       let b = and_parts (not (list_any (same_time m) lines)) (are_apart lines) apart in
       let none : list_any (is_at c p) lines ≡ false =
       any-same (is_at c p) (same_time m) (fits k r) lines a.1 (λ x h. at-moved c p m x here ∙ at-same k r m x (fit-is k r m a.0) (fit-is k r x h))
-      ∙ not-false (list_any (same_time m) lines) b.0 in
+      ∙ not-true (list_any (same_time m) lines) b.0 in
       rw here (ap (λ n. 1 + n) (count-none (is_at c p) lines none))
   | inr there ↦
       let a = and_parts (fits k r m) (list_all (fits k r) lines) all in
@@ -118,7 +109,7 @@ cond-both true b = refl
 cond-both false b = refl
 
 courses-known : (k r : ℕ) (lines : List Meeting) → list_all (fits k r) lines ≡ true → list_all (λ x. nat_lt x.course k) lines ≡ true
-courses-known k r lines all = all-same (fits k r) (λ x. nat_lt x.course k) lines (λ x h. lt-test x.course k (fit-is k r x h).course) all
+courses-known k r lines all = all-same (fits k r) (λ x. nat_lt x.course k) lines (λ x h. lt-ltb x.course k (fit-is k r x h).course) all
 
 pub courses-at : (k r : ℕ) (lines : List Meeting) (t : ℕ → Bool) (p : ℕ) → list_all (fits k r) lines ≡ true → are_apart lines ≡ true
     → count_below (λ c. t c && list_any (is_at c p) lines) k ≡ count_by (λ x. (place_of x == p) && t x.course) lines
@@ -135,8 +126,8 @@ fits-wider k n r lines l all = all-same (fits k r) (fits n r) lines each all
     each : (x : Meeting) → fits k r x ≡ true → fits n r x ≡ true
     each x h =
         let a = and_parts (nat_lt x.course k) (nat_lt x.room (r + 1) && (nat_lt x.day 14 && nat_lt x.period 48)) h in
-        let c = below x.course k a.0 in
-        and_from (nat_lt x.course n) (nat_lt x.room (r + 1) && (nat_lt x.day 14 && nat_lt x.period 48)) (lt-test x.course n (omega (arith, c, l))) a.1
+        let c = ltb-true x.course k a.0 in
+        and_from (nat_lt x.course n) (nat_lt x.room (r + 1) && (nat_lt x.day 14 && nat_lt x.period 48)) (lt-ltb x.course n (omega (arith, c, l))) a.1
 
 pub conflicts-at : (i : Instance) (r : ℕ) (lines : List Meeting) (m : Meeting) → length i.courses ≤ 1000 → list_all (fits (length i.courses) r) lines ≡ true → are_apart lines ≡ true → IsFit (length i.courses) r m
     → (n : ℕ) → n ≡ 1000 → count_below (λ d. known_related i m.course d && list_any (is_at d (place_of m)) lines) n ≡ count_by (are_in_conflict i m) lines
@@ -145,7 +136,7 @@ conflicts-at i r lines m few all apart fm n many =
     ∙ count-same (λ x. (place_of x == place_of m) && known_related i m.course x.course) (are_in_conflict i m) (fits (length i.courses) r) lines all
     (λ x h. ap₂ (λ s t. s && t)
     (same_place x.day x.period m.day m.period (fit-is (length i.courses) r x h).period fm.period ∙ ap₂ (λ s t. s && t) (turned x.day m.day) (turned x.period m.period))
-    (ap (λ t. t && are_related i m.course x.course) (lt-test x.course (length i.courses) (fit-is (length i.courses) r x h).course)))
+    (ap (λ t. t && are_related i m.course x.course) (lt-ltb x.course (length i.courses) (fit-is (length i.courses) r x h).course)))
 
 bytes-turned : (i : Instance) (c d : ℕ) → have_one_teacher i c d ≡ have_one_teacher i d c
 bytes-turned i c d = words (course i c).teacher (course i d).teacher
@@ -166,10 +157,6 @@ related-turned i c d = ap₂ (λ s t. not s && t) (turned c d) (ap₂ (λ s t. s
 conflict-turned : (i : Instance) (a b : Meeting) → are_in_conflict i a b ≡ are_in_conflict i b a
 conflict-turned i a b = ap₂ (λ s t. s && t) (ap₂ (λ s t. s && t) (turned a.day b.day) (turned a.period b.period)) (related-turned i a.course b.course)
 
-and-false : (b : Bool) → (b && false) ≡ false
-and-false true = refl
-and-false false = refl
-
 conflict-none : (i : Instance) (a : Meeting) → are_in_conflict i a a ≡ false
 conflict-none i a =
     ap (λ t. in_one_slot a a && (not t && (have_one_teacher i a.course a.course || are_in_one_curriculum i a.course a.course))) (eq-eqb a.course a.course refl)
@@ -185,7 +172,7 @@ abbrev before : Meeting → ℕ
 before m = m.day * 50 + m.period
 
 before-small : (k r : ℕ) (m : Meeting) → fits k r m ≡ true → nat_lt (before m) 698 ≡ true
-before-small k r m h = let f = fit-is k r m h in lt-test (m.day * 50 + m.period) 698 (omega (arith, f.day, f.period))
+before-small k r m h = let f = fit-is k r m h in lt-ltb (m.day * 50 + m.period) 698 (omega (arith, f.day, f.period))
 
 at_next : (m : Meeting) (j : ℕ) → (place_of m == j + 1) ≡ (before m == j)
 at_next m j = same_test (place_of m == j + 1) (m.day * 50 + m.period == j)
@@ -290,7 +277,7 @@ alone-is-to n q held k r lines all_places all apart grid =
     at_place : (p : ℕ) → p < 700 → held_at (is_member q) held k p ≡ members_at q lines p
     at_place p l =
         sum_below-same (λ c. cond (is_member q c && get_or held (c * 700 + p) false) 1 0) (λ c. cond (is_member q c && list_any (is_at c p) lines) 1 0) k
-        (λ c m. ap (λ t. cond (is_member q c && t) 1 0) (grid.cell c p false m l ∙ any-map (is_pair c p) course_place lines ∙ any-same (λ x. is_pair c p (course_place x)) (is_at c p) (fits k r) lines all (λ x h. and_comm (x.course == c) (place_of x == p))))
+        (λ c m. ap (λ t. cond (is_member q c && t) 1 0) (grid.cell c p false m l ∙ list_any-map (is_pair c p) course_place lines ∙ any-same (λ x. is_pair c p (course_place x)) (is_at c p) (fits k r) lines all (λ x h. and_comm (x.course == c) (place_of x == p))))
         ∙ courses-at k r lines (is_member q) p all apart
 
     numbered : (j : ℕ) → members_at q lines (j + 1) ≡ count_by (λ x. is_member q x.course && (before x == j)) lines
@@ -332,9 +319,6 @@ course-at [] k l all = absurd (omega arith)
 course-at (x ∷ cs) zero l all = (and_parts (is_course x) (list_all is_course cs) all).0
 course-at (x ∷ cs) (suc k) l all = course-at cs k (omega arith) (and_parts (is_course x) (list_all is_course cs) all).1
 
-at-most : (k n : ℕ) → nat_le k n ≡ true → k ≤ n
-at-most k n h = grind (arith, nat_tests, h)
-
 pub record IsSmall (c : Course) : Type 0 where
   pub lectures : c.lectures ≤ 1000
   pub min_days : c.min_days ≤ 1000
@@ -357,25 +341,25 @@ lines-few i r lines good all times =
 
 pub unavailable-is : (i : Instance) (m : Meeting) → list_all are_known i.constraints ≡ true → m.period < 48 → list_any (is_pair m.course (place_of m)) (map closed_place i.constraints) ≡ is_unavailable i m
 unavailable-is i m all l =
-    any-map (is_pair m.course (place_of m)) closed_place i.constraints
+    list_any-map (is_pair m.course (place_of m)) closed_place i.constraints
     ∙ any-same (λ x. is_pair m.course (place_of m) (closed_place x)) (λ x. (x.0 == m.course) && ((x.1 == m.day) && (x.2 == m.period))) are_known i.constraints all
-    (λ x h. ap (λ t. (x.0 == m.course) && t) (same_place x.1 x.2 m.day m.period (below x.2 48 (and_parts (nat_lt x.1 14) (nat_lt x.2 48) h).1) l))
+    (λ x h. ap (λ t. (x.0 == m.course) && t) (same_place x.1 x.2 m.day m.period (ltb-true x.2 48 (and_parts (nat_lt x.1 14) (nat_lt x.2 48) h).1) l))
 
 pub constraints-known : (i : Instance) → IsInstance i → list_all are_known i.constraints ≡ true
 constraints-known i good = all-same (is_constraint (length i.courses) i.days i.periods) are_known i.constraints
     (λ x h. let a = and_parts (nat_lt x.0 (length i.courses) && nat_lt x.1 i.days) (nat_lt x.2 i.periods) h in
     let b = and_parts (nat_lt x.0 (length i.courses)) (nat_lt x.1 i.days) a.0 in
-    let day = below x.1 i.days b.1 in
-    let period = below x.2 i.periods a.1 in
-    and_from (nat_lt x.1 14) (nat_lt x.2 48) (lt-test x.1 14 (omega (arith, day, good.few_days))) (lt-test x.2 48 (omega (arith, period, good.few_periods)))) good.constraints
+    let day = ltb-true x.1 i.days b.1 in
+    let period = ltb-true x.2 i.periods a.1 in
+    and_from (nat_lt x.1 14) (nat_lt x.2 48) (lt-ltb x.1 14 (omega (arith, day, good.few_days))) (lt-ltb x.2 48 (omega (arith, period, good.few_periods)))) good.constraints
 
 pub constraint-known : (i : Instance) → IsInstance i → All (λ y. (y.0 < length i.courses) × (y.1 < 700)) (map closed_place i.constraints)
 constraint-known i good = map-known closed_place (is_constraint (length i.courses) i.days i.periods) (length i.courses) 700 i.constraints good.constraints
     (λ x h. let a = and_parts (nat_lt x.0 (length i.courses) && nat_lt x.1 i.days) (nat_lt x.2 i.periods) h in
     let b = and_parts (nat_lt x.0 (length i.courses)) (nat_lt x.1 i.days) a.0 in
-    let day = below x.1 i.days b.1 in
-    let period = below x.2 i.periods a.1 in
-    (below x.0 (length i.courses) b.0, place-small x.1 x.2 (omega (arith, day, good.few_days)) (omega (arith, period, good.few_periods))))
+    let day = ltb-true x.1 i.days b.1 in
+    let period = ltb-true x.2 i.periods a.1 in
+    (ltb-true x.0 (length i.courses) b.0, place-small x.1 x.2 (omega (arith, day, good.few_days)) (omega (arith, period, good.few_periods))))
 
 -- ---- what the reader gives fits the tables
 
@@ -387,12 +371,12 @@ lines-fit i lines good all = all-same (is_meeting i) (fits (length i.courses) (l
         let a = and_parts (nat_lt x.course (length i.courses) && nat_le x.room (length i.rooms) && nat_lt x.day i.days) (nat_lt x.period i.periods) h in
         let b = and_parts (nat_lt x.course (length i.courses) && nat_le x.room (length i.rooms)) (nat_lt x.day i.days) a.0 in
         let c = and_parts (nat_lt x.course (length i.courses)) (nat_le x.room (length i.rooms)) b.0 in
-        let day = below x.day i.days b.1 in
-        let period = below x.period i.periods a.1 in
-        let room = at-most x.room (length i.rooms) c.1 in
+        let day = ltb-true x.day i.days b.1 in
+        let period = ltb-true x.period i.periods a.1 in
+        let room = leb-true x.room (length i.rooms) c.1 in
         and_from (nat_lt x.course (length i.courses)) (nat_lt x.room (length i.rooms + 1) && (nat_lt x.day 14 && nat_lt x.period 48)) c.0
-        (and_from (nat_lt x.room (length i.rooms + 1)) (nat_lt x.day 14 && nat_lt x.period 48) (lt-test x.room (length i.rooms + 1) (omega (arith, room)))
-        (and_from (nat_lt x.day 14) (nat_lt x.period 48) (lt-test x.day 14 (omega (arith, day, good.few_days))) (lt-test x.period 48 (omega (arith, period, good.few_periods)))))
+        (and_from (nat_lt x.room (length i.rooms + 1)) (nat_lt x.day 14 && nat_lt x.period 48) (lt-ltb x.room (length i.rooms + 1) (omega (arith, room)))
+        (and_from (nat_lt x.day 14) (nat_lt x.period 48) (lt-ltb x.day 14 (omega (arith, day, good.few_days))) (lt-ltb x.period 48 (omega (arith, period, good.few_periods)))))
 
 -- in tables that are as large or larger
 pub fits-more : (k r k' r' : ℕ) (lines : List Meeting) → k ≤ k' → r ≤ r' → list_all (fits k r) lines ≡ true → list_all (fits k' r') lines ≡ true
@@ -401,9 +385,9 @@ fits-more k r k' r' lines l m all = all-same (fits k r) (fits k' r') lines each 
     each : (x : Meeting) → fits k r x ≡ true → fits k' r' x ≡ true
     each x h =
         let f = fit-is k r x h in
-        and_from (nat_lt x.course k') (nat_lt x.room (r' + 1) && (nat_lt x.day 14 && nat_lt x.period 48)) (lt-test x.course k' (omega (arith, f.course, l)))
-        (and_from (nat_lt x.room (r' + 1)) (nat_lt x.day 14 && nat_lt x.period 48) (lt-test x.room (r' + 1) (omega (arith, f.room, m)))
-        (and_from (nat_lt x.day 14) (nat_lt x.period 48) (lt-test x.day 14 f.day) (lt-test x.period 48 f.period)))
+        and_from (nat_lt x.course k') (nat_lt x.room (r' + 1) && (nat_lt x.day 14 && nat_lt x.period 48)) (lt-ltb x.course k' (omega (arith, f.course, l)))
+        (and_from (nat_lt x.room (r' + 1)) (nat_lt x.day 14 && nat_lt x.period 48) (lt-ltb x.room (r' + 1) (omega (arith, f.room, m)))
+        (and_from (nat_lt x.day 14) (nat_lt x.period 48) (lt-ltb x.day 14 f.day) (lt-ltb x.period 48 f.period)))
 
 -- ---- the pairs of the tables
 
@@ -430,7 +414,7 @@ days-are i lines pairs taught n good count listed grid =
     sum_below-same (λ c. (slice_index_or i.courses c no_course).min_days - count_below (λ d. get_or taught (c * 14 + d) false) i.days) (missing_days i lines) (length i.courses)
     (λ c l. ap (λ h. (slice_index_or i.courses c no_course).min_days - h)
     (sum_below-same (λ d. cond (get_or taught (c * 14 + d) false) 1 0) (λ d. cond (list_any (is_taught_on c d) lines) 1 0) i.days
-    (λ d m. ap (λ t. cond t 1 0) (grid.cell c d false (omega (arith, l, count)) (omega (arith, m, good.few_days)) ∙ ap (list_any (is_pair c d)) listed ∙ any-map (is_pair c d) course_day lines))))
+    (λ d m. ap (λ t. cond t 1 0) (grid.cell c d false (omega (arith, l, count)) (omega (arith, m, good.few_days)) ∙ ap (list_any (is_pair c d)) listed ∙ list_any-map (is_pair c d) course_day lines))))
 
 pub rooms-are : (i : Instance) (lines : List Meeting) (pairs : List (ℕ × ℕ)) (used : List Bool) (n r : ℕ) → n ≡ length i.courses → r ≡ length i.rooms → pairs ≡ map course_room lines → IsGrid used n (r + 1) (λ c d. list_any (is_pair c d) pairs)
     → sum_below (λ c. count_below (λ k. get_or used (c * (length i.rooms + 1) + 1 + k) false) (length i.rooms) - 1) (length i.courses) ≡ sum_below (λ c. rooms_used i lines c - 1) (length i.courses)
@@ -438,7 +422,7 @@ rooms-are i lines pairs used n r count rooms listed grid =
     sum_below-same (λ c. count_below (λ k. get_or used (c * (length i.rooms + 1) + 1 + k) false) (length i.rooms) - 1) (λ c. rooms_used i lines c - 1) (length i.courses)
     (λ c l. ap (λ h. h - 1)
     (sum_below-same (λ k. cond (get_or used (c * (length i.rooms + 1) + 1 + k) false) 1 0) (λ k. cond (list_any (is_taught_in c k) lines) 1 0) (length i.rooms)
-    (λ k m. ap (λ t. cond t 1 0) (ap (λ j. get_or used j false) (cell c k) ∙ grid.cell c (k + 1) false (omega (arith, l, count)) (omega (arith, m, rooms)) ∙ ap (list_any (is_pair c (k + 1))) listed ∙ any-map (is_pair c (k + 1)) course_room lines))))
+    (λ k m. ap (λ t. cond t 1 0) (ap (λ j. get_or used j false) (cell c k) ∙ grid.cell c (k + 1) false (omega (arith, l, count)) (omega (arith, m, rooms)) ∙ ap (list_any (is_pair c (k + 1))) listed ∙ list_any-map (is_pair c (k + 1)) course_room lines))))
   where
     cell : (c k : ℕ) → c * (length i.rooms + 1) + 1 + k ≡ c * (r + 1) + (k + 1)
     cell c k = rw rooms (omega arith)

@@ -1,9 +1,8 @@
 -- Laws of sums over the numbers below a bound, of counts over lists and of pairs.
-use Rattle.std.proofs.Common.{inl, inr, ℕ, ◌≡◌, ◌+◌, ◌-◌, ◌*◌, ◌<◌, ◌≤◌, arith, refl, sym, ◌∙◌, ap, ap₂, zero, suc, Bool, true, false, not, cond, ◌&&◌, ◌||◌, List, [], ◌∷◌, ◌++◌, map, add-one}
+use Rattle.std.proofs.Common.{inl, inr, ℕ, ◌≡◌, ◌+◌, ◌-◌, ◌*◌, ◌<◌, ◌≤◌, arith, refl, sym, ◌∙◌, ap, ap₂, zero, suc, Bool, true, false, not, cond, ◌&&◌, ◌||◌, List, [], ◌∷◌, ◌++◌, add-one}
 use Rattle.std.specs.Prelude.{◌==◌, nat_lt}
 use Rattle.std.specs.List.{count_by, sum_by, list_any, list_all}
-use Rattle.std.proofs.lemmas.Bool.{and_parts, cases_eq, eq-eqb, ne_eqb}
-use Rattle.std.proofs.lemmas.Bool.Decides.{nat_tests}
+use Rattle.std.proofs.lemmas.Bool.{and_parts, cases_eq, eq-eqb, ltb-true, ne_eqb}
 use Rattle.std.proofs.lemmas.List.Sums.{sum_by-cons, sum_by_push}
 use Rattle.itc_score.specs.Sums.{sum_below, count_pairs}
 
@@ -98,12 +97,9 @@ count-split p number t n (x ∷ xs) all =
     sum_below-same (λ k. cond (t k) (count_by (λ y. p y && (number y == k)) (x ∷ xs)) 0) (λ k. one k + rest k) n
     (λ k l. ap (λ c. cond (t k) c 0) (count-cons (λ y. p y && (number y == k)) x xs) ∙ one_place (p x) (t k) (number x == k) (count_by (λ y. p y && (number y == k)) xs) ∙ ap (λ c. c + rest k) (at_place k))
     ∙ sum_below-+ one rest n
-    ∙ ap₂ (λ c d. c + d) (sum_below-one (cond (p x && t (number x)) 1 0) (number x) n (below (number x) n a.0)) (count-split p number t n xs a.1)
+    ∙ ap₂ (λ c d. c + d) (sum_below-one (cond (p x && t (number x)) 1 0) (number x) n (ltb-true (number x) n a.0)) (count-split p number t n xs a.1)
     ∙ sym (count-cons (λ y. p y && t (number y)) x xs)
   where
-    below : (k m : ℕ) → nat_lt k m ≡ true → k < m
-    below k m h = grind (arith, nat_tests, h)
-
     at_place : (k : ℕ) → ◌≡◌ {A = ℕ} (cond (number x == k) (cond (p x && t k) 1 0) 0) (cond (number x == k) (cond (p x && t (number x)) 1 0) 0)
     at_place k = elim (cases_eq (number x) k) [
       | inl same ↦ ap (λ m. cond (number x == k) (cond (p x && t m) 1 0) 0) (sym same)
@@ -150,7 +146,3 @@ or-swap false false c d = refl
 pub any-or : {X : Type 0} (p q : X → Bool) (xs : List X) → list_any (λ x. p x || q x) xs ≡ (list_any p xs || list_any q xs)
 any-or p q [] = refl
 any-or p q (x ∷ xs) = ap (λ t. (p x || q x) || t) (any-or p q xs) ∙ or-swap (p x) (q x) (list_any p xs) (list_any q xs)
-
-pub any-map : {X Y : Type 0} (p : Y → Bool) (f : X → Y) (xs : List X) → list_any p (map f xs) ≡ list_any (λ x. p (f x)) xs
-any-map p f [] = refl
-any-map p f (x ∷ xs) = ap (λ t. p (f x) || t) (any-map p f xs)

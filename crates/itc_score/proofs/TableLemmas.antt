@@ -2,14 +2,14 @@
 use Rattle.std.proofs.Common.{ℕ, ◌≡◌, ◌+◌, ◌-◌, ◌*◌, ◌<◌, ◌≤◌, arith, refl, sym, ◌∙◌, ap, ap₂, zero, suc, Bool, true, false, not, cond, ◌&&◌, ◌||◌, List, [], ◌∷◌, ◌++◌, length, get_or, set, drop, take, inl, inr}
 use Rattle.std.specs.Prelude.{◌==◌, nat_lt}
 use Rattle.std.specs.List.{count_by, list_any, list_all}
-use Rattle.std.proofs.lemmas.Bool.{and_parts, and_from, cases_Bool, eqb-true}
-use Rattle.std.proofs.lemmas.Bool.Decides.{nat_tests}
+use Rattle.std.proofs.lemmas.Bool.{and_parts, and_from, cases_Bool, eqb-true, ltb-true}
 use Rattle.std.proofs.lemmas.List.{get_or-take, get_or-drop}
 use Rattle.problem_core.specs.Tables.{IsGrid}
 use Rattle.problem_core.specs.Grids.{IsGrid-put, IsGrid-same}
 use Rattle.problem_core.proofs.GridLemmas.{drop_before}
 use Rattle.ctt_reader.specs.declared.instance.Curriculum.{Curriculum}
 use Rattle.ctt_reader.specs.Promised.{are_members, is_curriculum}
+use Rattle.ctt_reader.proofs.FieldsBackLemmas.{passes-at}
 use Rattle.timed_solution.specs.declared.times.Meeting.{Meeting}
 use Rattle.itc_score.specs.Sums.{count_pairs}
 use Rattle.itc_score.specs.Score.{is_member, has_room, in_one_slot, in_one_room, score_of}
@@ -18,14 +18,6 @@ use Rattle.ctt_reader.specs.declared.instance.Instance.{Instance}
 use Rattle.itc_score.specs.Places.{place_of, fits, is_in, held_at, alone_up_to, alone_among}
 use Rattle.itc_score.proofs.SumLemmas.{sum_below-same, sum_below-more, count-cons, count-push, count-same, pairs-push, sum_below-bound}
 use Rattle.itc_score.proofs.LineLemmas.{IsFit, fit-is, same_place, place-small}
-
-pub at : {X : Type 0} (p : X → Bool) (xs : List X) (k : ℕ) (d : X) → list_all p xs ≡ true → k < length xs → p (get_or xs k d) ≡ true
-at p [] k d all l = absurd (omega arith)
-at p (x ∷ xs) zero d all l = (and_parts (p x) (list_all p xs) all).0
-at p (x ∷ xs) (suc k) d all l = at p xs k d (and_parts (p x) (list_all p xs) all).1 (omega arith)
-
-below : (k n : ℕ) → nat_lt k n ≡ true → k < n
-below k n h = grind (arith, nat_tests, h)
 
 -- ---- members beside members
 
@@ -39,7 +31,7 @@ pub join_one-step : (cells : List Bool) (n row : ℕ) (ms : List ℕ) (left : �
     → IsGrid (set cells (row * n + get_or ms (left - 1) 0) true) n n (λ c d. ((row == c) && list_any (λ m. m == d) (drop (left - 1) ms)) || f c d)
 join_one-step cells n row ms left f some l known there grid =
     let x = get_or ms (left - 1) 0 in
-    IsGrid-put cells n n (λ c d. ((row == c) && list_any (λ m. m == d) (drop left ms)) || f c d) (λ c d. ((row == c) && list_any (λ m. m == d) (drop (left - 1) ms)) || f c d) row x true grid there (below x n (at (λ m. nat_lt m n) ms (left - 1) 0 known (omega arith)))
+    IsGrid-put cells n n (λ c d. ((row == c) && list_any (λ m. m == d) (drop left ms)) || f c d) (λ c d. ((row == c) && list_any (λ m. m == d) (drop (left - 1) ms)) || f c d) row x true grid there (ltb-true x n (passes-at (λ m. nat_lt m n) ms (left - 1) 0 known (omega arith)))
     (λ c d _ _. ap (λ (ys : List ℕ). ((row == c) && list_any (λ m. m == d) ys) || f c d) (drop_before ms left 0 some l) ∙ join-bits (row == c) (x == d) (list_any (λ m. m == d) (drop left ms)) (f c d))
 
 join-rows : (r a b f : Bool) → ((r && b) || ((a && b) || f)) ≡ (((r || a) && b) || f)

@@ -5,8 +5,6 @@ pub mod Packed
 pub mod Statuses
 pub mod Texts
 pub mod Run
-pub mod Calls
 pub mod Exits
-pub mod Causes
 pub mod Expected
 pub mod Samples

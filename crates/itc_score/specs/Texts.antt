@@ -1,23 +1,10 @@
 -- What is printed.
 use Rattle.std.specs.Prelude.{ℕ, List, ◌++◌, codes, decimal}
-use Rattle.input_core.specs.Texts.{text_of_kind}
-use Rattle.input_core.specs.declared.faults.LineFault.{LineFault}
 use Rattle.itc_score.specs.declared.counts.ScoreCounts.{ScoreCounts}
 use Rattle.itc_score.specs.Score.{soft_total}
 
 abbrev pub usage_text : List ℕ
 usage_text = codes "usage:\nscore INSTANCE SOLUTION\n"
-
-abbrev pub read_fault_text : List ℕ → List ℕ
-read_fault_text name = codes "read fault " ++ name ++ codes "\n"
-
-abbrev pub too_long_text : List ℕ → List ℕ
-too_long_text name = codes "bad input " ++ name ++ codes ": bytes 16777217 over 16777216\n"
-
--- the first faulty line of a file
-abbrev pub bad_line_text : List ℕ → LineFault → List ℕ
-bad_line_text name fault =
-    codes "bad input " ++ name ++ codes " line " ++ decimal fault.line ++ codes ": " ++ text_of_kind fault.kind ++ codes "\n"
 
 -- a name, its number, and a line feed
 abbrev pub count_line : List ℕ → ℕ → List ℕ

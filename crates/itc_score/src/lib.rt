@@ -2,13 +2,11 @@
 //! International Timetabling Competition 2007, and the run that prints it.
 #![tactic(auto)]
 
-mod answer;
 mod command;
 mod compactness;
 mod conflicts;
 mod counts;
 mod exit;
-mod inputs;
 mod lines;
 mod occupancy;
 mod scoring;
@@ -19,6 +17,6 @@ mod texts;
 
 pub use command::run_score;
 pub use counts::ScoreCounts;
-pub use exit::{NoWords, exit_status};
+pub use exit::exit_status;
 pub use scoring::score;
 pub use status::ScoreStatus;

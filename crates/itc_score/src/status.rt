@@ -1,5 +1,8 @@
 ghost use Rattle.std.specs.Prelude.{◌≡◌};
-ghost use Rattle.itc_score.specs.Statuses.{number_of};
+ghost use Rattle.run_core.specs.Numbers.{number_of};
+ghost use Rattle.itc_score.specs.Statuses.{tool_status, IsStatus};
+
+use run_core::ToolStatus;
 
 /// How a run ends.
 #[derive(Clone, Copy)]
@@ -21,7 +24,7 @@ pub enum ScoreStatus {
 impl ScoreStatus {
     /// The exit status of the program.
     pub fn number(self) -> u8
-        ensures { result ≡ number_of self }
+        ensures { result ≡ number_of (tool_status self) }
     {
         match self {
             ScoreStatus::Done => 0,
@@ -31,5 +34,21 @@ impl ScoreStatus {
             ScoreStatus::WriteFault => 6,
             ScoreStatus::Memory => 7,
         }
+    }
+}
+
+/// The status of a run that ends so.
+pub fn score_status(status: ToolStatus) -> ScoreStatus
+    requires { IsStatus status }
+    ensures { tool_status result ≡ status }
+{
+    match status {
+        ToolStatus::Done => ScoreStatus::Done,
+        ToolStatus::Usage => ScoreStatus::Usage,
+        ToolStatus::BadInput => ScoreStatus::BadInput,
+        ToolStatus::ReadFault => ScoreStatus::ReadFault,
+        ToolStatus::WriteFault => ScoreStatus::WriteFault,
+        ToolStatus::Memory => ScoreStatus::Memory,
+        ToolStatus::No | ToolStatus::Open => unreachable!(),
     }
 }

@@ -2,7 +2,8 @@
 #![tactic(auto)]
 
 use input_core::{FileShelf, OutSink};
-use itc_score::{NoWords, exit_status};
+use itc_score::exit_status;
+use run_core::NoWords;
 use std::env;
 use std::process::ExitCode;
 

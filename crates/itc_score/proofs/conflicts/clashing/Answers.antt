@@ -3,10 +3,10 @@ use Rattle.std.specs.List.{list_any, count_by}
 use Rattle.std.proofs.lemmas.List.Sums.{sum_by_more}
 use Rattle.timed_solution.specs.declared.times.Meeting.{Meeting}
 use Rattle.itc_score.specs.Score.{are_in_conflict}
+use Rattle.ctt_reader.proofs.FieldsBackLemmas.{passes-at}
 use Rattle.itc_score.specs.Places.{fits, place_of, is_at, known_related}
 use Rattle.itc_score.specs.Packed.{bits_in_both}
 use Rattle.itc_score.proofs.LineLemmas.{fit-is, conflicts-at, place-small}
-use Rattle.itc_score.proofs.TableLemmas.{at}
 use Rattle.itc_score.proofs.PackedLemmas.{rows-in-both}
 use Rattle.itc_score.proofs.conflicts.clashing.Goals as goal
 
@@ -20,7 +20,7 @@ loop-line-preserved c =
     let n = length i.courses in
     let m = line c in
     let l = c.loop-line-test.true in
-    let f = fit-is n (length i.rooms) m (at (fits n (length i.rooms)) lines c.loop-line.line-index _ c.requires.lines l) in
+    let f = fit-is n (length i.rooms) m (passes-at (fits n (length i.rooms)) lines c.loop-line.line-index _ c.requires.lines l) in
     let count : c.count_both-twice.result ≡ bits_in_both c.args.related.now (m.course * 20) c.args.busy.now (c.place.result * 20) 20 = c.count_both-twice.ensures.value in
     let here : c.count_both-twice.result ≡ count_by (are_in_conflict i m) lines =
     count ∙ ap (λ p. bits_in_both c.args.related.now (m.course * 20) c.args.busy.now (p * 20) 20) c.place.ensures

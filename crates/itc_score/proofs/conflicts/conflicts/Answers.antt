@@ -7,7 +7,7 @@ use Rattle.itc_score.specs.Sums.{count_pairs}
 use Rattle.itc_score.specs.Score.{are_in_conflict}
 use Rattle.itc_score.specs.Packed.{IsPacked}
 use Rattle.itc_score.specs.Places.{is_at, place_course, known_related}
-use Rattle.itc_score.proofs.SumLemmas.{any-map}
+use Rattle.ctt_reader.proofs.NameLemmas.{list_any-map}
 use Rattle.itc_score.proofs.LineLemmas.{fits-more, places-known, conflicts-twice, halved}
 use Rattle.itc_score.proofs.conflicts.conflicts.Goals as goal
 
@@ -30,7 +30,7 @@ pub clashing-requires-clause-busy : goal.clashing-requires-clause-busy
 clashing-requires-clause-busy c =
     let listed = c.as_slice.ensures.value ∙ c.in_ok-pairs.ensures in
     let table = IsGrid-same c.in_ok-busy.busy.items 700 1000 (λ p d. list_any (is_pair p d) c.as_slice.result.now) (λ p d. list_any (is_at d p) c.args.lines.now) c.in_ok-busy.ensures
-    (λ p d _ _. ap (list_any (is_pair p d)) listed ∙ any-map (is_pair p d) place_course c.args.lines.now) in
+    (λ p d _ _. ap (list_any (is_pair p d)) listed ∙ list_any-map (is_pair p d) place_course c.args.lines.now) in
     subst (λ (words : List ℕ). IsPacked words 700 (λ p d. list_any (is_at d p) c.args.lines.now)) (sym c.deref-4.ensures.value)
     (c.in_ok-busy_words.ensures (λ p d. list_any (is_at d p) c.args.lines.now) (subst (λ (cells : List Bool). IsGrid cells 700 1000 (λ p d. list_any (is_at d p) c.args.lines.now)) (sym c.deref-2.ensures.value) table))
 

@@ -5,11 +5,12 @@ use Rattle.std.proofs.lemmas.List.{take_more, length-take}
 use Rattle.std.proofs.lemmas.List.Sums.{count_by-le-length}
 use Rattle.timed_solution.specs.declared.times.Meeting.{Meeting}
 use Rattle.problem_core.specs.Tables.{IsGrid}
+use Rattle.ctt_reader.proofs.FieldsBackLemmas.{passes-at}
 use Rattle.itc_score.specs.Places.{fits, place_of, is_in}
 use Rattle.itc_score.specs.Sums.{count_pairs}
 use Rattle.itc_score.specs.Score.{in_one_room}
 use Rattle.itc_score.proofs.LineLemmas.{fit-is, place-small}
-use Rattle.itc_score.proofs.TableLemmas.{at, all-take, at-most-one, occupancy-more, rooms-more}
+use Rattle.itc_score.proofs.TableLemmas.{all-take, at-most-one, occupancy-more, rooms-more}
 use Rattle.itc_score.proofs.occupancy.room_pairs.Goals as goal
 
 abbrev line : (c : goal.After-from-pairs) → Meeting
@@ -21,7 +22,7 @@ loop-k-preserved c =
     let k = c.loop-k.k in
     let m = line c in
     let l = c.loop-k-test.true in
-    let f = fit-is 1000 c.args.rooms m (at (fits 1000 c.args.rooms) lines k _ c.requires.lines l) in
+    let f = fit-is 1000 c.args.rooms m (passes-at (fits 1000 c.args.rooms) lines k _ c.requires.lines l) in
     let cell : get_or c.loop-k.counts (m.room * 700 + place_of m) 0 ≡ count_by (is_in m.room (place_of m)) (take k lines) = c.loop-k.invariant.grid.cell m.room (place_of m) 0 (omega (arith, f.room)) (place-small m.day m.period f.day f.period) in
     let here : c.from-pairs.result ≡ cond (m.room == 0) 0 (count_by (is_in m.room (place_of m)) (take k lines)) = c.from-pairs.ensures ∙ c.add_line.ensures.earlier ∙ ap (λ n. cond (m.room == 0) 0 n) cell in
     let more : take (k + 1) lines ≡ take k lines ++ m ∷ [] = take_more lines k _ l in

@@ -1,6 +1,6 @@
 use Rattle.std.specs.Prelude.{codes}
 use Rattle.itc_score.specs.Texts.{count_line}
-use Rattle.itc_score.proofs.RunLaws.{five_lines}
+use Rattle.itc_score.proofs.TextLemmas.{five_lines}
 use Rattle.itc_score.proofs.texts.push_hard.Goals as goal
 
 pub returns : goal.returns

@@ -2,7 +2,7 @@ use Rattle.std.proofs.Common.{◌∙◌, ◌++◌, ap}
 use Rattle.std.specs.Prelude.{codes}
 use Rattle.itc_score.specs.Score.{soft_total}
 use Rattle.itc_score.specs.Texts.{count_line}
-use Rattle.itc_score.proofs.RunLaws.{five_lines}
+use Rattle.itc_score.proofs.TextLemmas.{five_lines}
 use Rattle.itc_score.proofs.texts.push_soft.Goals as goal
 
 pub returns : goal.returns
