@@ -110,12 +110,7 @@ pub fn assign(
 }
 
 /// Matches one left vertex after the other.
-fn matched(
-    alloc: Global,
-    lefts: u32,
-    rights: u32,
-    edges: &[Edge],
-) -> Result<Matching, AllocError> {
+fn matched(alloc: Global, lefts: u32, rights: u32, edges: &[Edge]) -> Result<Matching, AllocError> {
     let mut matching = Matching::new(alloc, lefts, rights)?;
     let graph = Graph::new(alloc, lefts, edges)?;
     let mut frontier = Frontier::new(alloc, rights)?;
