@@ -1,5 +1,3 @@
-ghost use Rattle.std.specs.Prelude.{◌≡◌};
-
 use crate::lists::{count_at, item_at, put, sum_up};
 use std::alloc::{AllocError, Global};
 
