@@ -1,8 +1,11 @@
-//! Worked cases of the bounds of nodes, of trees and levels, and of the certificates of a search: tests alone.
+//! Worked cases of linear programs in floating point, of the bounds of nodes, of trees and levels, and of the
+//! certificates of a search: tests alone.
 #![tactic(auto)]
 
 #[cfg(test)]
 mod bounds;
+#[cfg(test)]
+mod float_programs;
 #[cfg(test)]
 mod floors;
 #[cfg(test)]
