@@ -2,3 +2,4 @@ pub mod ValueLaws
 pub mod JsonLaws
 pub mod ListLaws
 pub mod RoomLaws
+pub mod StandingLaws

@@ -1,5 +1,5 @@
 -- Pieces of each number below another, and tests on lists.
-use Rattle.std.proofs.Common.{ℕ, ◌≡◌, ◌+◌, ◌<◌, arith, refl, sym, ◌∙◌, ap, ap₂, zero, suc, add-one, List, [], ◌∷◌, ◌++◌, Bool, true, false, ◌&&◌, cond}
+use Rattle.std.proofs.Common.{ℕ, ◌≡◌, ◌+◌, ◌<◌, arith, refl, ◌∙◌, ap, ap₂, zero, suc, add-one, List, [], ◌∷◌, ◌++◌, Bool, true, false, ◌&&◌, cond}
 use Rattle.std.specs.List.{filter, list_all}
 use Rattle.std.proofs.lemmas.Bool.{and_parts, and_from}
 use Rattle.std.proofs.lemmas.List.Elements.{filter-append}

@@ -3,3 +3,4 @@ pub mod Rooms
 pub mod Report
 pub mod Json
 pub mod Groups
+pub mod Standing

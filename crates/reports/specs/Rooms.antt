@@ -5,7 +5,6 @@ use Rattle.problem_core.specs.Facts.{Facts, hours_of}
 use Rattle.problem_core.specs.Choice.{entry}
 use Rattle.ctt_reader.specs.declared.instance.Instance.{Instance}
 use Rattle.timed_solution.specs.declared.times.Times.{Times}
-use Rattle.timed_solution.specs.declared.times.Meeting.{Meeting}
 use Rattle.measure_file.specs.declared.measures.Measures.{Measures}
 use Rattle.room_model.specs.ProblemOf.{problem_of}
 use Rattle.reports.specs.Lines.{meeting_at}

@@ -7,6 +7,7 @@ mod faults;
 mod groups;
 mod json_line;
 mod json_parts;
+mod laws;
 mod limits;
 mod meetings;
 mod report;
@@ -16,6 +17,7 @@ mod six_values;
 
 pub use faults::{long_fault, room_fault};
 pub use json_line::json_report;
+pub use laws::report_laws;
 pub use limits::over_limit;
 pub use meetings::meeting_lines;
 pub use report::text_report;

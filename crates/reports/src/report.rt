@@ -92,11 +92,7 @@ fn push_room(
     push_roomed(text, instance, sessions)
 }
 
-fn push_room_line(
-    text: &mut Vec<u8>,
-    instance: &Instance,
-    room: usize,
-) -> Result<(), AllocError>
+fn push_room_line(text: &mut Vec<u8>, instance: &Instance, room: usize) -> Result<(), AllocError>
     requires { room < length instance.now.rooms }
     ensures { OnOk result (text.new.items ≡ text.old.items ++ room_line (room_at instance.now room)) }
 {

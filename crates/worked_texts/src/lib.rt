@@ -1,6 +1,6 @@
-//! Worked cases of the outside of the program, of the readers and writers of its files, of the score, of the page
-//! of a week, of reports as JSON, and of the text of a certificate, through the public calls of their crates: tests
-//! alone.
+//! Worked cases of the outside of the program, of the readers and writers of its files, of reports as text and as
+//! JSON, of the score, of the page of a week, and of the text of a certificate, through the public calls of their
+//! crates: tests alone.
 #![tactic(auto)]
 
 #[cfg(test)]
@@ -13,6 +13,8 @@ mod json;
 mod measures;
 #[cfg(test)]
 mod outside;
+#[cfg(test)]
+mod report;
 #[cfg(test)]
 mod score;
 #[cfg(test)]

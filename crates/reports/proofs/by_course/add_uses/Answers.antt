@@ -1,4 +1,4 @@
-use Rattle.std.proofs.Common.{ℕ, ◌∙◌, ◌++◌, refl, length, []}
+use Rattle.std.proofs.Common.{◌∙◌, ◌++◌, refl, length, []}
 use Rattle.std.specs.Prelude.{nat_lt, slice_index_or}
 use Rattle.reports.specs.Rooms.{if_used}
 use Rattle.reports.specs.Groups.{count_of}
@@ -16,6 +16,6 @@ loop-session-preserved c =
       counts_whole = done.counts_whole ∙ c.loop-session.invariant.counts_whole;
       known = all-drop_next (λ (x : Session). nat_lt x.course n) c.args.sessions.now k c.loop-session.invariant.known;
       each = each_use-step n c.args.room _ c.loop-session.uses.items c.add_use.new.uses.items c.loop-session.counts c.add_use.new.counts
-      (λ d. slice_index_or c.args.uses.now.items d [] ++ if_used c.args.room (count_of d c.args.sessions.now)) c.loop-session.invariant.each done.here done.others done.clear done.other_counts;
+          (λ d. slice_index_or c.args.uses.now.items d [] ++ if_used c.args.room (count_of d c.args.sessions.now)) c.loop-session.invariant.each done.here done.others done.clear done.other_counts;
       clear = clear-step n _ k c.loop-session.counts c.add_use.new.counts c.args.sessions.now _ c.loop-session-test.true refl c.loop-session.invariant.clear done.clear done.other_counts;
     }
