@@ -6,6 +6,8 @@ mod bounds;
 #[cfg(test)]
 mod floors;
 #[cfg(test)]
+mod guesses;
+#[cfg(test)]
 mod levels;
 #[cfg(test)]
 mod model;
