@@ -12,7 +12,7 @@ use crate::fixed::close_fixed_at;
 use crate::free::lowest_free;
 use crate::guess::guess;
 use crate::solve::bound_free;
-use crate::tested::tested;
+use crate::guesses::tested;
 use duality::Objective;
 use exact_num::{Arith, Steps};
 use meeting_patterns::pattern_laws;

@@ -7,7 +7,7 @@ ghost use Rattle.node_bound.specs.Bounds.{has_free};
 ghost use Rattle.node_bound.specs.Fixed.{IsNode};
 
 use crate::bounded::Hints;
-use crate::tested::Guess;
+use crate::guesses::Guess;
 use duality::Objective;
 use exact_num::Arith;
 use packing_model::ObjectiveAt;
@@ -28,6 +28,9 @@ pub(crate) fn guess<O: Objective, A: Arith>(
     requires free { has_free (packing at.now.model.now) (fixed_of at.now.fixing.now) ≡ true }
     ensures { A.wides arith.old ≤ A.wides arith.new }
 {
-    let _ = (alloc, at, hints, arith);
+    let _ = alloc;
+    let _ = at;
+    let _ = hints;
+    let _ = arith;
     Ok(None)
 }
