@@ -1,0 +1,12 @@
+//! Guesses at the answer of a node of the search. Nothing is promised of a guess: who asks for one tests it, and
+//! goes the plain way where the test fails. So a guess makes the search faster and carries no claim.
+#![tactic(auto)]
+
+mod additive;
+mod guess;
+mod lists;
+mod reading;
+mod singles;
+mod slots;
+
+pub use guess::{Guess, Hints, find_guess, gains_fit};
