@@ -87,8 +87,8 @@ impl Matching {
 /// matching weighs as much as all vertices cost, and none weighs more.
 ///
 /// The edges come grouped by left vertex, the groups in rising order. Edges out of place, or with a vertex out of
-/// range, are overlooked; and where sums of weights and prices leave `i128` the answer is any matching. It fails
-/// only where memory runs out.
+/// range, are overlooked; and where sums of weights and prices leave `i128` the answer may be any. It fails only
+/// where memory runs out.
 ///
 /// The method is Kuhn's (1955) with Munkres's (1957) prices, by shortest augmenting paths as in Jonker and
 /// Volgenant (1987): one left vertex after the other is given a price and matched along the alternating path
@@ -110,12 +110,7 @@ pub fn assign(
 }
 
 /// Matches one left vertex after the other.
-fn matched(
-    alloc: Global,
-    lefts: u32,
-    rights: u32,
-    edges: &[Edge],
-) -> Result<Matching, AllocError> {
+fn matched(alloc: Global, lefts: u32, rights: u32, edges: &[Edge]) -> Result<Matching, AllocError> {
     let mut matching = Matching::new(alloc, lefts, rights)?;
     let graph = Graph::new(alloc, lefts, edges)?;
     let mut frontier = Frontier::new(alloc, rights)?;

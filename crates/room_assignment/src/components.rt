@@ -1,5 +1,3 @@
-ghost use Rattle.std.specs.Prelude.{◌≡◌};
-
 use crate::lists::{count_at, item_at, put, sum_up};
 use std::alloc::{AllocError, Global};
 
@@ -10,12 +8,12 @@ pub struct Arc {
     pub to: u32,
 }
 
-/// Strongly connected components: how many there are, and by node the number of its component. An arc that
-/// leaves its component goes to one of a lower number.
+/// By node, the rank of its strongly connected component, and the highest. The rank is how many arcs between
+/// components a path from there has at most, so an arc that leaves its component goes to one of lower rank.
 #[derive(Drop)]
-pub struct Components {
-    pub count: u32,
-    pub numbers: Vec<u32>,
+pub struct Ranks {
+    pub ranks: Vec<u32>,
+    pub highest: u32,
 }
 
 /// The heads of the arcs, grouped by tail, and by node the place of its first.
@@ -34,20 +32,23 @@ struct Walk {
     order: Vec<u32>,
     /// By node, the lowest order that is known to be reached from it, among nodes without a component.
     low: Vec<u32>,
-    /// By node, its component.
-    numbers: Vec<Option<u32>>,
+    /// By node, the highest rank that is known to be that of its component at least.
+    high: Vec<u32>,
+    /// By node, the rank of its component, once that is whole.
+    ranks: Vec<Option<u32>>,
     /// The nodes from the root to where the walk is.
     path: Vec<u32>,
     /// The nodes that were entered and have no component yet, in the order in which they were entered.
     waiting: Vec<u32>,
     /// How many nodes were entered.
     entered: u32,
-    /// How many components are whole.
-    count: u32,
+    /// The highest rank of a component that is whole.
+    highest: u32,
 }
 
-/// The strongly connected components of the graph of so many nodes, by Tarjan's method (1972).
-pub fn find_components(alloc: Global, nodes: u32, arcs: &[Arc]) -> Result<Components, AllocError> {
+/// The ranks of the strongly connected components of the graph of so many nodes, which are found by Tarjan's
+/// method (1972).
+pub fn ranks_of(alloc: Global, nodes: u32, arcs: &[Arc]) -> Result<Ranks, AllocError> {
     let heads = Heads::new(alloc, nodes, arcs)?;
     let mut walk = Walk::new(alloc, nodes, &heads)?;
     for root in 0..nodes {
@@ -55,15 +56,15 @@ pub fn find_components(alloc: Global, nodes: u32, arcs: &[Arc]) -> Result<Compon
             walk.go_from(&heads, root)?;
         }
     }
-    let mut numbers = vec![in alloc; 0; nodes as usize]?;
+    let mut ranks = vec![in alloc; 0; nodes as usize]?;
     for node in 0..nodes {
-        if let Some(number) = item_at(&walk.numbers, node, None) {
-            put(&mut numbers, node, number);
+        if let Some(rank) = item_at(&walk.ranks, node, None) {
+            put(&mut ranks, node, rank);
         }
     }
-    Ok(Components {
-        count: walk.count,
-        numbers,
+    Ok(Ranks {
+        ranks,
+        highest: walk.highest,
     })
 }
 
@@ -98,16 +99,18 @@ impl Walk {
         let next = Vec::from_slice(alloc, &heads.starts)?;
         let order = vec![in alloc; 0; nodes as usize]?;
         let low = vec![in alloc; 0; nodes as usize]?;
-        let numbers = vec![in alloc; None; nodes as usize]?;
+        let high = vec![in alloc; 0; nodes as usize]?;
+        let ranks = vec![in alloc; None; nodes as usize]?;
         Ok(Walk {
             next,
             order,
             low,
-            numbers,
+            high,
+            ranks,
             path: Vec::new(alloc),
             waiting: Vec::new(alloc),
             entered: 0,
-            count: 0,
+            highest: 0,
         })
     }
 
@@ -153,22 +156,30 @@ impl Walk {
         if order == 0 {
             return self.enter(to);
         }
-        if item_at(&self.numbers, to, None).is_none() {
-            self.lower(from, order);
+        match item_at(&self.ranks, to, None) {
+            Some(rank) => self.raise(from, rank.wrapping_add(1)),
+            None => self.lower(from, order),
         }
         Ok(())
     }
 
     /// Leaves the last node of the path. Where it was the first of its component that was entered, those that
-    /// were entered since and have none are the others.
+    /// were entered since and have none are the others. The node before has an arc to it.
     fn leave(&mut self, node: u32) {
         let low = item_at(&self.low, node, 0);
+        let high = item_at(&self.high, node, 0);
+        let is_first = low == item_at(&self.order, node, 0);
         let _ = self.path.pop();
-        if low == item_at(&self.order, node, 0) {
-            self.close(node);
+        if is_first {
+            self.close(node, high);
         }
         if let Some(before) = self.path.last().copied() {
-            self.lower(before, low);
+            if is_first {
+                self.raise(before, high.wrapping_add(1));
+            } else {
+                self.lower(before, low);
+                self.raise(before, high);
+            }
         }
     }
 
@@ -179,15 +190,22 @@ impl Walk {
         }
     }
 
-    /// Makes a component of the waiting nodes, from the last back to this one.
-    fn close(&mut self, node: u32) {
+    /// Raises the rank of the node's component, where this is higher.
+    fn raise(&mut self, node: u32, rank: u32) {
+        if rank > item_at(&self.high, node, 0) {
+            put(&mut self.high, node, rank);
+        }
+    }
+
+    /// Makes a component of this rank of the waiting nodes, from the last back to this one.
+    fn close(&mut self, node: u32, rank: u32) {
+        self.highest = self.highest.max(rank);
         for _ in 0..self.waiting.len() {
             let Some(one) = self.waiting.pop() else {
                 return;
             };
-            put(&mut self.numbers, one, Some(self.count));
+            put(&mut self.ranks, one, Some(rank));
             if one == node {
-                self.count = self.count.wrapping_add(1);
                 return;
             }
         }

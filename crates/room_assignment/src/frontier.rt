@@ -155,12 +155,7 @@ impl Frontier {
 
     /// Goes on from the right vertex: over the edge by which it is matched, to an end at the left vertex or over
     /// that vertex's edges.
-    fn go_on(
-        &mut self,
-        graph: &Graph,
-        matching: &Matching,
-        right: u32,
-    ) -> Result<(), AllocError> {
+    fn go_on(&mut self, graph: &Graph, matching: &Matching, right: u32) -> Result<(), AllocError> {
         let Some(left) = item_at(&matching.mates, right, None) else {
             return Ok(());
         };

@@ -1,7 +1,7 @@
 ghost use Rattle.std.specs.Prelude.{◌≡◌, ◌<ℤ◌, pos, length, IfOk};
 
 use crate::assignment::Assignment;
-use crate::components::{Arc, Components, find_components};
+use crate::components::{Arc, Ranks, ranks_of};
 use crate::graph::Edge;
 use crate::lists::{item_at, put};
 use std::alloc::{AllocError, Global};
@@ -29,24 +29,24 @@ struct Matched<'a> {
     lefts: u32,
 }
 
-/// By node, its component's number less that of the free node's.
+/// By node, its component's rank; and that of the free node's.
 #[derive(Drop)]
 struct Shifts {
-    components: Components,
+    ranks: Ranks,
     free: u32,
 }
 
 /// Prices like those of the assignment, for the weights times a factor: at least 0, and two ends of an edge cost
 /// at least its weight times the factor. They cost exactly that where some matching of the greatest weight has
 /// the edge, and more where none has. A vertex costs more than 0 where each matching of the greatest weight
-/// matches it, and 0 where one leaves it unmatched. The factor is at least 1 and at most 2 more than the number of
+/// matches it, and 0 where one leaves it unmatched. The factor is at least 1 and at most 1 more than the number of
 /// matched pairs. The graph is that of the assignment; where sums and products leave `i128` the prices are any.
 /// It fails only where memory runs out.
 ///
 /// Such prices are there by Goldman and Tucker (1956). An exchange on an edge without slack, or at a vertex of
 /// price 0, leads to another matching of the greatest weight where it is part of a circle of exchanges. So the
 /// pairs of the matching and one node for all that is free are made the nodes of a directed graph of exchanges,
-/// and each pair's prices are shifted by the number of its strongly connected component, which falls along an
+/// and each pair's prices are shifted by the rank of its strongly connected component, which falls along an
 /// exchange that is part of no circle.
 pub fn strict_prices(
     alloc: Global,
@@ -67,7 +67,7 @@ pub fn strict_prices(
         lefts,
     };
     let shifts = shifts_of(alloc, &matched)?;
-    let factor = i128::from(shifts.components.count) + 1;
+    let factor = i128::from(shifts.ranks.highest) + 1;
     let left = shifted_left(alloc, &matched, &shifts, factor)?;
     let right = shifted_right(alloc, &matched, &shifts, factor, rights)?;
     Ok(StrictPrices {
@@ -106,9 +106,9 @@ fn shifts_of(alloc: Global, matched: &Matched) -> Result<Shifts, AllocError> {
     let mut arcs = Vec::new(alloc);
     add_tight(matched, &mut arcs)?;
     add_free(matched, &mut arcs)?;
-    let components = find_components(alloc, matched.lefts.wrapping_add(1), &arcs)?;
-    let free = item_at(&components.numbers, matched.lefts, 0);
-    Ok(Shifts { components, free })
+    let ranks = ranks_of(alloc, matched.lefts.wrapping_add(1), &arcs)?;
+    let free = item_at(&ranks.ranks, matched.lefts, 0);
+    Ok(Shifts { ranks, free })
 }
 
 /// The exchanges over edges without slack: the left vertex's pair gives up its edge for this one, and the right
@@ -191,8 +191,8 @@ impl<'a> Matched<'a> {
 impl Shifts {
     /// What the left vertices of the node's pair are raised by, and its right vertices lowered by.
     fn shift(&self, node: u32) -> i128 {
-        let number = i128::from(item_at(&self.components.numbers, node, 0));
-        number.wrapping_sub(i128::from(self.free))
+        let rank = i128::from(item_at(&self.ranks.ranks, node, 0));
+        rank.wrapping_sub(i128::from(self.free))
     }
 }
 
