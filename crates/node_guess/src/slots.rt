@@ -10,7 +10,7 @@ use std::alloc::Global;
 use values::Items;
 
 /// The most levels of an objective.
-const LEVELS: usize = 7;
+pub const LEVELS: usize = 7;
 
 /// Rooms for the meetings, slot by slot, that weigh most at the levels up to that of the node, compared one after
 /// the other, with prices that show it.
@@ -20,6 +20,7 @@ pub struct SlotRooms {
     pub singles: Items<Single>,
     /// By level less 1, what its weights are multiplied by.
     pub factors: [i128; LEVELS],
+    pub edges: Items<Edge>,
     pub assignment: Assignment,
 }
 
@@ -49,6 +50,7 @@ pub fn slot_rooms<O: Objective>(
         layout,
         singles,
         factors,
+        edges,
         assignment,
     }))
 }
@@ -128,7 +130,7 @@ impl SlotRooms {
     }
 
     /// The pattern of an edge.
-    fn single(&self, edge: Option<u32>) -> Option<Single> {
+    pub fn single(&self, edge: Option<u32>) -> Option<Single> {
         match self.singles.as_slice().get(edge? as usize) {
             Some(single) => Some(*single),
             None => None,
