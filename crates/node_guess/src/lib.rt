@@ -3,10 +3,16 @@
 #![tactic(auto)]
 
 mod additive;
+mod face;
 mod guess;
 mod lists;
+mod modular;
+mod points;
 mod reading;
+mod relaxed;
+mod rounding;
 mod singles;
 mod slots;
+mod walk;
 
 pub use guess::{Guess, Hints, find_guess, gains_fit};
