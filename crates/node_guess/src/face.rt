@@ -24,7 +24,7 @@ pub struct Face {
 
 /// The face of the levels up to this one, where their values are those that rooms given slot by slot reach. It
 /// fails only where memory runs out.
-pub fn face<O: Objective>(
+pub fn face_of<O: Objective>(
     alloc: Global,
     at: &ObjectiveAt<O>,
     level: u32,

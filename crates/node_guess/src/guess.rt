@@ -2,9 +2,9 @@ ghost use Rattle.std.specs.Prelude.{◌≤◌};
 
 use crate::additive::adds_up;
 use crate::face::unit_weight;
-use crate::points::{Reached, exact_point, reached, whole_choice};
+use crate::points::{exact_point, point_reached, whole_choice};
 use crate::reading::weight_of;
-use crate::relaxed::{Relaxed, relaxed};
+use crate::relaxed::{Relaxed, relaxation};
 use crate::rounding::rounded_leaf;
 use crate::slots::{SlotRooms, slot_rooms};
 use crate::walk::{Ground, Rooms, walked};
@@ -145,13 +145,13 @@ impl Hints {
         face_level: u32,
     ) -> Result<(), Memory> {
         if let Some(relaxed) = &mut self.relaxed {
-            if relaxed.follow(at)? {
+            if relaxed.follow(alloc, at)? {
                 return Ok(());
             }
         }
         self.relaxed = None;
-        if let Some(mut made) = relaxed(alloc, at, face_level)? {
-            if made.follow(at)? {
+        if let Some(mut made) = relaxation(alloc, at, face_level)? {
+            if made.follow(alloc, at)? {
                 self.relaxed = Some(made);
             }
         }
@@ -198,7 +198,7 @@ fn guess_reached<O: Objective>(
     at: &ObjectiveAt<O>,
     relaxed: &mut Relaxed,
 ) -> Result<Option<Guess>, Memory> {
-    let found = reached(alloc, relaxed)?;
+    let found = point_reached(alloc, relaxed)?;
     if found.in_part.as_slice().is_empty() {
         return Ok(Some(whole_choice(alloc, at, relaxed, &found)?));
     }

@@ -275,7 +275,7 @@ fn divisor(first: i128, second: i128) -> i128 {
 /// The fraction of the element: the remainders of the prime and the element are its numerators, and what they are
 /// multiples of the element by its denominators, up to the first small one.
 fn fraction_of(value: u64) -> Option<(i128, i128)> {
-    let mut before = (i128::from(PRIME), 0);
+    let mut before: (i128, i128) = (i128::from(PRIME), 0);
     let mut now: (i128, i128) = (i128::from(value), 1);
     for _ in 0..DIVISIONS {
         if now.0 <= MOST {

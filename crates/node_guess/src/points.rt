@@ -21,7 +21,7 @@ pub struct Reached {
 }
 
 /// The columns of the program's point.
-pub fn reached(alloc: Global, relaxed: &Relaxed) -> Result<Reached, Memory> {
+pub fn point_reached(alloc: Global, relaxed: &Relaxed) -> Result<Reached, Memory> {
     let mut reached = Reached {
         in_part: Items::new(alloc),
         wholly: Items::new(alloc),
@@ -120,7 +120,9 @@ fn equations(
     let mut keyed = Vec::new(alloc);
     for row in rows.as_slice() {
         let length = relaxed.simplex.columns_of(*row).len() as u32;
-        keyed.push((length, *row))?;
+        if keyed.push((length, *row)).is_err() {
+            return Err(Memory);
+        }
     }
     keyed.sort()?;
     for key in keyed.as_slice() {
@@ -166,7 +168,7 @@ fn point<O: Objective>(
     denominator: i128,
     values: &[i128],
 ) -> Result<Guess, Memory> {
-    let mut entries = Vec::new(alloc);
+    let mut entries = Items::new(alloc);
     for column in reached.wholly.as_slice() {
         entries.push((relaxed.pattern(*column), denominator))?;
     }
@@ -181,6 +183,7 @@ fn point<O: Objective>(
         }
         number = number.wrapping_add(1);
     }
+    let mut entries = entries.into_vec();
     entries.sort()?;
     Ok(Guess::Point(Point {
         den: denominator,

@@ -1,4 +1,4 @@
-use crate::face::{Face, face, unit_weight};
+use crate::face::{Face, face_of, unit_weight};
 use crate::lists::{item_at, put};
 use crate::reading::{runs_of, weight_of};
 use duality::{Objective, RowName, Run};
@@ -43,12 +43,12 @@ pub struct Relaxed {
 
 /// The program at the root of a level, where the levels above the face's weigh all patterns alike. `None` where
 /// it can't be made. It fails only where memory runs out.
-pub fn relaxed<O: Objective>(
+pub fn relaxation<O: Objective>(
     alloc: Global,
     at: &ObjectiveAt<O>,
     face_level: u32,
 ) -> Result<Option<Relaxed>, Memory> {
-    let Some(face) = face(alloc, at, face_level)? else {
+    let Some(face) = face_of(alloc, at, face_level)? else {
         return Ok(None);
     };
     let live = live_patterns(alloc, at, &face)?;
@@ -173,7 +173,9 @@ fn costs<O: Objective>(
         if cost < 0 {
             return Ok(None);
         }
-        costs.push(nearest_i64_to_f64(cost))?;
+        if costs.push(nearest_i64_to_f64(cost)).is_err() {
+            return Err(Memory);
+        }
     }
     Ok(Some(costs))
 }
@@ -187,7 +189,9 @@ fn twins(alloc: Global, live: &[u32]) -> Result<Vec<f64>, Memory> {
             .wrapping_mul(6_364_136_223_846_793_005)
             .wrapping_add(1_442_695_040_888_963_407);
         let twin = ((state >> 33) % 1_000) as i64;
-        twins.push(nearest_i64_to_f64(twin.wrapping_add(1)))?;
+        if twins.push(nearest_i64_to_f64(twin.wrapping_add(1))).is_err() {
+            return Err(Memory);
+        }
     }
     Ok(twins)
 }
@@ -248,33 +252,33 @@ impl Relaxed {
 
     /// Adds the cuts that are new in the pool, and holds what was taken or left out since. False where the node
     /// isn't one behind the last, or a pattern is taken that can't be.
-    pub fn follow<O: Objective>(&mut self, at: &ObjectiveAt<O>) -> Result<bool, Memory> {
+    pub fn follow<O: Objective>(&mut self, alloc: Global, at: &ObjectiveAt<O>) -> Result<bool, Memory> {
         if self.level != at.level
             || !starts_with(at.fixing.zero.as_slice(), self.zero.as_slice())
             || !starts_with(at.fixing.one.as_slice(), self.one.as_slice())
         {
             return Ok(false);
         }
-        self.add_cuts(at)?;
+        self.add_cuts(alloc, at)?;
         self.leave_out(at)?;
         self.take(at)
     }
 
     /// Adds the cuts that are new.
-    fn add_cuts<O: Objective>(&mut self, at: &ObjectiveAt<O>) -> Result<(), Memory> {
+    fn add_cuts<O: Objective>(&mut self, alloc: Global, at: &ObjectiveAt<O>) -> Result<(), Memory> {
         for cut in self.cuts..at.pool.len() {
-            self.add_cut(at, cut)?;
+            self.add_cut(alloc, at, cut)?;
         }
         self.cuts = at.pool.len();
         Ok(())
     }
 
     /// Adds the cut. A pattern of it that was taken fills it.
-    fn add_cut<O: Objective>(&mut self, at: &ObjectiveAt<O>, cut: u32) -> Result<(), Memory> {
+    fn add_cut<O: Objective>(&mut self, alloc: Global, at: &ObjectiveAt<O>, cut: u32) -> Result<(), Memory> {
         if cut >= at.pool.len() {
             return Ok(());
         }
-        let mut columns = Items::new(Global);
+        let mut columns = Items::new(alloc);
         let mut side = 1.0;
         for pattern in at.pool.get(cut).patterns() {
             let column = item_at(&self.columns, *pattern, NONE);
