@@ -1,6 +1,9 @@
-//! Worked cases of the bounds of nodes, of trees and levels, and of the certificates of a search: tests alone.
+//! Worked cases of assignments, of the bounds of nodes, of trees and levels, and of the certificates of a search:
+//! tests alone.
 #![tactic(auto)]
 
+#[cfg(test)]
+mod assignments;
 #[cfg(test)]
 mod bounds;
 #[cfg(test)]
