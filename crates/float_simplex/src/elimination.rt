@@ -1,5 +1,7 @@
 use crate::basis::Basis;
-use crate::entries::{divided, entries_above, number_at, subtract_entries, sum_at, zeros, set_number};
+use crate::entries::{
+    divided, entries_above, number_at, set_number, subtract_entries, sum_at, zeros,
+};
 use crate::task::{Task, Variable};
 use std::alloc::{AllocError, Global};
 
@@ -92,7 +94,13 @@ impl Elimination {
         let Some(place) = self.best_place(column.as_slice()) else {
             return Ok(());
         };
-        eliminate(alloc, self.inverse.as_mut_slice(), place, column.as_slice(), 0.0)?;
+        eliminate(
+            alloc,
+            self.inverse.as_mut_slice(),
+            place,
+            column.as_slice(),
+            0.0,
+        )?;
         if let Some(entry) = self.variables.get_mut(place) {
             *entry = variable;
         }

@@ -1,7 +1,7 @@
 use crate::basis::Basis;
 use crate::choose::{entering, leaving, row_entries};
 use crate::elimination::invert;
-use crate::entries::{number_at, zeros, set_number};
+use crate::entries::{number_at, set_number, zeros};
 use crate::reduced::{Reduced, multipliers};
 use crate::task::{Cost, Task, Variable, empty_columns};
 use std::alloc::{AllocError, Global};
@@ -59,12 +59,7 @@ impl FloatSimplex {
     /// Adds a row and gives its number: the sum of these columns is at most `side`, or equal to it. Each column is
     /// named once; one that does not exist counts as 0. An equation is in force at once; another row where a
     /// point breaks it, or by `enforce`.
-    pub fn add_row(
-        &mut self,
-        columns: &[u32],
-        equal: bool,
-        side: f64,
-    ) -> Result<u32, AllocError> {
+    pub fn add_row(&mut self, columns: &[u32], equal: bool, side: f64) -> Result<u32, AllocError> {
         let number = self.row_count();
         self.task.add_row(self.alloc, number, columns, equal, side)?;
         self.basis.add_row()?;
@@ -130,11 +125,20 @@ impl FloatSimplex {
         Ok(Ended::Limit)
     }
 
+    /// -1 where the value at a place is below 0, else 1.
+    fn sign(&self, place: usize) -> f64 {
+        if self.basis.value(place) < 0.0 {
+            -1.0
+        } else {
+            1.0
+        }
+    }
+
     /// One pivot for the variable at a place that breaks its bounds. Where no variable may enter, or the pivot is
     /// not safe, the inverse is made anew instead. False where it was new, and no variable may enter.
     fn step(&mut self, place: usize) -> Result<bool, AllocError> {
+        let sign = self.sign(place);
         let row = self.basis.inverse_row(place);
-        let sign = if self.basis.value(place) < 0.0 { -1.0 } else { 1.0 };
         let entries = row_entries(self.alloc, &self.task, &self.basis, row)?;
         let entries = entries.as_slice();
         match entering(&self.task, &self.basis, &self.reduced, entries, row, sign) {
@@ -187,7 +191,8 @@ impl FloatSimplex {
         let row = self.basis.inverse_row(place);
         self.reduced.subtract(&self.basis, step, entries, row);
         self.reduced.set_cost(variable, Cost::zero());
-        self.basis.exchange(self.alloc, place, variable, column.as_slice())?;
+        self.basis
+            .exchange(self.alloc, place, variable, column.as_slice())?;
         self.pivots = self.pivots.wrapping_add(1);
         self.since = self.since.wrapping_add(1);
         Ok(true)
@@ -245,13 +250,29 @@ impl FloatSimplex {
         Ok(point)
     }
 
-    /// The multiplier of each row, 0 where it is not in force. The cost of the point is the sum of multipliers
-    /// times sides; those of a column's rows sum to its cost at most, and only equations have any over 0.
+    /// After `Best`, the multiplier of each row, 0 where it is not in force. The cost of the point is the sum of
+    /// multipliers times sides. Those of the rows of a column that is not held sum to its cost at most, and only
+    /// equations have any over 0.
     pub fn multipliers(&self, alloc: Global) -> Result<Vec<f64>, AllocError> {
         let mut by_row = zeros(alloc, self.task.rows.len())?;
         let by_position = multipliers(alloc, &self.task, &self.basis)?;
         for (row, multiplier) in self.basis.rows.iter().zip(by_position.iter()) {
             set_number(by_row.as_mut_slice(), *row, multiplier.main);
+        }
+        Ok(by_row)
+    }
+
+    /// After `Empty`, the multipliers of the rows that show it, 0 where a row is not in force. The sum of
+    /// multipliers times sides is over 0. Those of the rows of a column that is not held sum to 0 at most, and only
+    /// equations have any over 0.
+    pub fn farkas(&self, alloc: Global) -> Result<Vec<f64>, AllocError> {
+        let mut by_row = zeros(alloc, self.task.rows.len())?;
+        if let Some(place) = leaving(&self.task, &self.basis) {
+            let sign = self.sign(place);
+            let numbers = self.basis.inverse_row(place);
+            for (row, number) in self.basis.rows.iter().zip(numbers.iter()) {
+                set_number(by_row.as_mut_slice(), *row, sign * *number);
+            }
         }
         Ok(by_row)
     }

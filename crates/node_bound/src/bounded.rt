@@ -16,23 +16,12 @@ use crate::guesses::tested;
 use duality::Objective;
 use exact_num::{Arith, Steps};
 use meeting_patterns::pattern_laws;
+use node_guess::Hints;
 use packing_model::{At, Leaf, Measured, ObjectiveAt, Point};
 use problem_core::{Choice, Memory};
 use search_nodes::measured_laws;
 use std::alloc::Global;
 use std::sync::ledger::Ledger;
-
-/// What a search found at earlier nodes and may help at later ones. It decides speed alone: no promise rests
-/// on it.
-#[derive(Drop)]
-pub struct Hints {}
-
-impl Hints {
-    /// Nothing found.
-    pub fn new() -> Hints {
-        Hints {}
-    }
-}
 
 /// What is known at a node: a leaf that closes there; a better choice; a point that meets the rows of the node
 /// and weighs more than the best value, though it makes no choice; that a number of the arithmetic did not

@@ -6,10 +6,9 @@ ghost use Rattle.packing_model.specs.Nodes.{fixed_of};
 ghost use Rattle.node_bound.specs.Bounds.{has_free};
 ghost use Rattle.node_bound.specs.Fixed.{IsNode};
 
-use crate::bounded::Hints;
-use crate::guesses::Guess;
 use duality::Objective;
 use exact_num::Arith;
+use node_guess::{Guess, Hints, find_guess, gains_fit};
 use packing_model::ObjectiveAt;
 use problem_core::Memory;
 use std::alloc::Global;
@@ -28,9 +27,8 @@ pub(crate) fn guess<O: Objective, A: Arith>(
     requires free { has_free (packing at.now.model.now) (fixed_of at.now.fixing.now) ≡ true }
     ensures { A.wides arith.old ≤ A.wides arith.new }
 {
-    let _ = alloc;
-    let _ = at;
-    let _ = hints;
-    let _ = arith;
-    Ok(None)
+    if !gains_fit(at, arith) {
+        return Ok(None);
+    }
+    find_guess(alloc, at, hints)
 }

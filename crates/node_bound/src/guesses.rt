@@ -17,20 +17,13 @@ use crate::bounded::Bounded;
 use crate::gap::takes_point;
 use clique_cuts::better_choice;
 use duality::{Leaf, Objective, Term, is_before};
+use node_guess::Guess;
 use packing_model::{ObjectiveAt, Point, close_leaf};
 use problem_core::{Choice, Memory};
 use std::alloc::Global;
 
 /// The largest size of a scale and of a multiplier.
 const MOST_TIMES: u128 = 1_000_000_000_000_000_000_000_000;
-
-/// An answer at a node that was found in some way of which nothing is promised.
-#[derive(Drop)]
-pub enum Guess {
-    Leaf(Leaf),
-    Choice(Choice),
-    Point(Point),
-}
 
 /// The answer that a guess makes where it passes its test: a leaf that closes, a better choice, or a point of
 /// the node that weighs more than the best value though it makes no choice. Any guess may be asked for. It

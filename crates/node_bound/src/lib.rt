@@ -24,9 +24,10 @@ mod task;
 mod terms;
 mod whole;
 
-pub use bounded::{Bounded, Hints, bound, bound_at};
+pub use bounded::{Bounded, bound, bound_at};
 pub use fixed::{close_fixed, close_fixed_at};
 pub use free::lowest_free;
 pub use laws::bound_laws;
 pub use task::NodeTask;
-pub use guesses::{Guess, tested};
+pub use guesses::tested;
+pub use node_guess::{Guess, Hints};
