@@ -20,8 +20,9 @@ use std::num::{nearest_i64_to_f64, saturating_f64_to_i64};
 const ROOT_PIVOTS: u32 = 100_000;
 const NODE_PIVOTS: u32 = 20_000;
 
-/// The draws of the walks, one after the other.
+/// The draws of the walks, one after the other: at most these, and so many times the pairs that may be drawn.
 const DRAWS: [u64; 4] = [1_000_000, 1_000_000, 2_000_000, 4_000_000];
+const DRAWS_A_PAIR: u64 = 1_000;
 
 /// What is nearer to a bound than this is taken to reach it.
 const NEAR: f64 = 0.000_1;
@@ -223,7 +224,8 @@ fn walk_on<O: Objective>(
     for draws in DRAWS.iter().skip(relaxed.walks as usize) {
         relaxed.walks = relaxed.walks.wrapping_add(1);
         let seed = 88_172_645_463_325_252;
-        rooms = walked(alloc, &ground, &rooms, *draws, seed, goal)?;
+        let most = ground.pair_count().saturating_mul(DRAWS_A_PAIR);
+        rooms = walked(alloc, &ground, &rooms, most.min(*draws), seed, goal)?;
         if is_more(at, 0 - i64::from(rooms.used)) {
             return Ok(Some(rooms.choice(alloc, at.model)?));
         }

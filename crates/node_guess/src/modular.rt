@@ -203,7 +203,7 @@ fn inverse(number: u64) -> u64 {
     let mut power = 1;
     let mut square = number;
     let exponent = PRIME - 2;
-    for bit in 0..61 {
+    for bit in 0..61u32 {
         if (exponent >> bit) & 1 == 1 {
             power = product(power, square);
         }

@@ -82,6 +82,11 @@ impl Ground {
         Ok(ground)
     }
 
+    /// The number of pairs.
+    pub fn pair_count(&self) -> u64 {
+        self.pairs.len() as u64
+    }
+
     /// Adds the pair.
     fn add(&mut self, pair: Pair) -> Result<(), Memory> {
         let at = self.at(pair.event, pair.room);
