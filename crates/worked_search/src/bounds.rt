@@ -181,7 +181,7 @@ fn nodes_of_week() -> [Node; 6] {
 }
 
 /// Leaves the patterns out, or takes them, one after the other.
-fn fix_each(model: &Model, walk: &mut Walk, patterns: &[u32], taken: bool) -> Result<(), Fail>
+pub fn fix_each(model: &Model, walk: &mut Walk, patterns: &[u32], taken: bool) -> Result<(), Fail>
     requires { IsWalk (packing model.now) walk.old }
     ensures { IfOk result (λ _. IsWalk (packing model.now) walk.new) }
 {
@@ -224,7 +224,7 @@ fn cut_of(alloc: Global, model: &Model, patterns: &[u32]) -> Result<Cut, Fail>
 }
 
 /// The cut as a pool, where there is one.
-fn pool_of(alloc: Global, model: &Model, cut: &[u32]) -> Result<Pool, Fail>
+pub fn pool_of(alloc: Global, model: &Model, cut: &[u32]) -> Result<Pool, Fail>
     ensures { IfOk result (IsPoolOf (packing model.now)) }
 {
     if cut.is_empty() {
@@ -422,7 +422,8 @@ fn judge_nodes(rt: &impl Abort, alloc: Global, model: &Model, nodes: &[Node]) ->
     Ok(())
 }
 
-fn model_of(alloc: Global, shape: &Shape) -> Result<Model, BuildFault> {
+/// The model of the shape.
+pub fn model_of(alloc: Global, shape: &Shape) -> Result<Model, BuildFault> {
     Model::build(alloc, problem_of(alloc, shape)?)
 }
 
