@@ -134,9 +134,10 @@ fn checked_levels(
     text_laws();
     certificate_laws();
     let bytes = write_cert(alloc, certificate)?;
-    match check(alloc, model, bytes.as_slice())? {
-        Verdict::Verified { levels, values: _ } => Ok(levels),
-        Verdict::Not { line: _, reason: _ } => unreachable!(),
+    match check(alloc, model, bytes.as_slice()) {
+        Ok(Verdict::Verified { levels, values: _ }) => Ok(levels),
+        Ok(Verdict::Not { line: _, reason: _ }) => unreachable!(),
+        Err(_) => Err(Memory),
     }
 }
 
