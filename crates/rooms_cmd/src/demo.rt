@@ -113,6 +113,21 @@ fn summary(
     ensures { IfOk result (λ v. v.items ≡ counts_text courses loaded.now.instance loaded.now.times loaded.now.model ++ verified_line (length certificate.now.levels) ++ first.now ++ value_lines certificate.now.values) }
 {
     let levels = checked_levels(alloc, &loaded.model, certificate)?;
+    with_levels(alloc, courses, loaded, levels, first, certificate)
+}
+
+/// The counts of the input, that so many levels are verified, a first line and the values.
+fn with_levels(
+    alloc: Global,
+    courses: u32,
+    loaded: &Loaded,
+    levels: u32,
+    first: &[u8],
+    certificate: &Certificate,
+) -> Result<Vec<u8>, Memory>
+    requires { is_writable certificate.now ≡ true }
+    ensures { IfOk result (λ v. v.items ≡ counts_text courses loaded.now.instance loaded.now.times loaded.now.model ++ verified_line levels ++ first.now ++ value_lines certificate.now.values) }
+{
     let values = value_lines(alloc, &certificate.values)?;
     let mut text = counts(alloc, courses, loaded)?;
     push_counted(&mut text, b"verified", u64::from(levels))?;
