@@ -13,10 +13,12 @@ use Rattle.cert_checker.specs.Faults.{fault_of}
 use Rattle.cert_checker.specs.Verdicts.{IsValid, judged, verdict_of}
 use Rattle.cert_checker.specs.declared.verdict.Verdict.TheVariants.{Verified}
 use Rattle.branch_tree.specs.Logs.{Moment}
+use Rattle.branch_tree.specs.declared.log.Log.{Log}
 use Rattle.lex_driver.specs.Solving.{IsCertificate, IsOpen, IsOptimal, Solves}
 use Rattle.lex_driver.specs.declared.solve.Solved.{Solved}
 use Rattle.lex_driver.specs.declared.solve.Solved.TheVariants.{Optimal, Open as LeftOpen}
 use Rattle.run_core.specs.declared.status.ToolStatus.{ToolStatus}
+use Rattle.run_core.specs.declared.status.ToolStatus.TheVariants.{Open}
 use Rattle.demo_files.specs.Generator.{instance_of, times_of}
 use Rattle.reports.specs.Lines.{value_lines}
 use Rattle.rooms_cmd.specs.Answers.{open_line, optimal_line, verified_line}
@@ -64,3 +66,10 @@ demo_answer w n budget i t p (LeftOpen level c log) text status e g h solves is 
       is_open = subst (λ (q : Facts). IsOpen q budget level c log (begins w) (ends w (length c.cuts))) h solves;
       is = is.1 ∙ ap (λ x. x ++ verified_line (level - 1) ++ open_line level ++ value_lines c.values) (counts_are n i t p e g h);
     })
+
+-- what is told where the search stopped in a level
+pub open_told : (n : ℕ) (i : Instance) (t : Times) (p : Facts) (solved : Solved) (level : ℕ) (c : Certificate) (log : Log) (text : List ℕ) → solved ≡ LeftOpen level c log → AreVerifiable p solved
+    → text ≡ counts_text n i t p ++ verified_line (length c.levels) ++ open_line level ++ value_lines c.values → IsSummary n i t p solved text Open
+open_told n i t p solved level c log text is verifiable_is told =
+    let v : IsVerifiable p (level - 1) c = subst (AreVerifiable p) is verifiable_is in
+    subst (λ (s : Solved). IsSummary n i t p s text Open) (sym is) (refl, told ∙ ap (λ k. counts_text n i t p ++ verified_line k ++ open_line level ++ value_lines c.values) v.finished)

@@ -113,6 +113,21 @@ fn summary(
     ensures { IfOk result (λ v. v.items ≡ counts_text courses loaded.now.instance loaded.now.times loaded.now.model ++ verified_line (length certificate.now.levels) ++ first.now ++ value_lines certificate.now.values) }
 {
     let levels = checked_levels(alloc, &loaded.model, certificate)?;
+    with_levels(alloc, courses, loaded, levels, first, certificate)
+}
+
+/// The counts of the input, that so many levels are verified, a first line and the values.
+fn with_levels(
+    alloc: Global,
+    courses: u32,
+    loaded: &Loaded,
+    levels: u32,
+    first: &[u8],
+    certificate: &Certificate,
+) -> Result<Vec<u8>, Memory>
+    requires { is_writable certificate.now ≡ true }
+    ensures { IfOk result (λ v. v.items ≡ counts_text courses loaded.now.instance loaded.now.times loaded.now.model ++ verified_line levels ++ first.now ++ value_lines certificate.now.values) }
+{
     let values = value_lines(alloc, &certificate.values)?;
     let mut text = counts(alloc, courses, loaded)?;
     push_counted(&mut text, b"verified", u64::from(levels))?;
@@ -134,9 +149,10 @@ fn checked_levels(
     text_laws();
     certificate_laws();
     let bytes = write_cert(alloc, certificate)?;
-    match check(alloc, model, bytes.as_slice())? {
-        Verdict::Verified { levels, values: _ } => Ok(levels),
-        Verdict::Not { line: _, reason: _ } => unreachable!(),
+    match check(alloc, model, bytes.as_slice()) {
+        Ok(Verdict::Verified { levels, values: _ }) => Ok(levels),
+        Ok(Verdict::Not { line: _, reason: _ }) => unreachable!(),
+        Err(_) => Err(Memory),
     }
 }
 
