@@ -137,11 +137,7 @@ fn with_levels(
 }
 
 /// How many levels the check of the certificate's text verifies.
-fn checked_levels(
-    alloc: Global,
-    model: &Model,
-    certificate: &Certificate,
-) -> Result<u32, Memory>
+fn checked_levels(alloc: Global, model: &Model, certificate: &Certificate) -> Result<u32, Memory>
     requires writable { is_writable certificate.now ≡ true }
     requires valid { IsValid model.now (length certificate.now.levels) certificate.now }
     ensures { IfOk result (λ n. n ≡ length certificate.now.levels) }
@@ -165,7 +161,11 @@ fn counts(alloc: Global, courses: u32, loaded: &Loaded) -> Result<Vec<u8>, Memor
     push_counted(&mut text, b"courses", loaded.instance.courses.len() as u64)?;
     push_counted(&mut text, b"rooms", loaded.instance.rooms.len() as u64)?;
     push_counted(&mut text, b"meetings", loaded.times.meetings.len() as u64)?;
-    push_counted(&mut text, b"patterns", u64::from(loaded.model.patterns().len()))?;
+    push_counted(
+        &mut text,
+        b"patterns",
+        u64::from(loaded.model.patterns().len()),
+    )?;
     push_counted(&mut text, b"rows", u64::from(loaded.model.base_len()))?;
     Ok(text)
 }

@@ -62,12 +62,7 @@ fn judge(alloc: Global, inputs: &Inputs, json: bool) -> Result<Answer, Stop>
 }
 
 /// The report on the given rooms, which are legal.
-fn report_on(
-    alloc: Global,
-    inputs: &Inputs,
-    choice: &Choice,
-    json: bool,
-) -> Result<Vec<u8>, Memory>
+fn report_on(alloc: Global, inputs: &Inputs, choice: &Choice, json: bool) -> Result<Vec<u8>, Memory>
     requires instance { IsInstance inputs.now.instance }
     requires times { AreTimes inputs.now.instance inputs.now.times.meetings }
     requires same { inputs.now.problem ≡ problem_of inputs.now.instance inputs.now.times inputs.now.measures }
