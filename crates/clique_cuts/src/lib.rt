@@ -14,4 +14,4 @@ mod slots;
 pub use cuts::separate;
 pub use laws::clique_laws;
 pub use packing_model::{Cut, Pool};
-pub use rounding::{better_choice, rounded};
+pub use rounding::rounded;

@@ -45,11 +45,11 @@ pub fn rounded<O: Objective>(
 {
     let entries = falling(alloc, point)?;
     let choice = packed(alloc, at.model, &entries)?;
-    match better_choice(alloc, at, choice)? {
+    match tested(alloc, at, choice)? {
         Some(choice) => Ok(Some(choice)),
         None => {
             let choice = slot_choice(alloc, at.model, point.den, &entries)?;
-            better_choice(alloc, at, choice)
+            tested(alloc, at, choice)
         }
     }
 }
@@ -90,10 +90,8 @@ fn take_free(walk: &mut Walk, m: &Model, pattern: u32) -> Result<(), Memory>
     Ok(())
 }
 
-/// The choice, where it is better: it is legal, has the targets of the levels below, reaches the floor, and
-/// weighs more than the best value at the level. Any choice may be asked for, of any number of entries and any
-/// rooms. It fails only where memory runs out.
-pub fn better_choice<O: Objective>(
+/// The choice where it is better.
+fn tested<O: Objective>(
     alloc: Global,
     at: &ObjectiveAt<O>,
     choice: Choice,

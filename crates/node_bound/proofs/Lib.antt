@@ -19,5 +19,3 @@ pub mod EntryLaws
 pub mod ColumnLaws
 pub mod TaskLaws
 pub mod SideLaws
-pub mod GuessedLaws
-pub mod GivenLaws

@@ -10,5 +10,3 @@ pub mod Exact
 pub mod Places
 pub mod Taken
 pub mod Entries
-pub mod Guessed
-pub mod Given

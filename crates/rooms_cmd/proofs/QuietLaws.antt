@@ -1,5 +1,5 @@
 -- What a run in which no call fails answers to inputs of which more is known.
-use Rattle.std.proofs.Common.{ℕ, ◌≡◌, ◌⊎◌, inl, inr, ◌≤◌, ◌<◌, ◌*◌, ◌-◌, sym, ◌∙◌, ap, subst, arith, List, [], length, true}
+use Rattle.std.proofs.Common.{ℕ, ◌≡◌, ◌⊎◌, inl, inr, ◌≤◌, ◌<◌, ◌*◌, ◌-◌, refl, sym, ◌∙◌, ap, subst, arith, List, [], length, true}
 use Rattle.std.specs.Prelude.{Option, Some, None, Ok, IsTrue, ◌↔◌, ◌^◌}
 use Rattle.input_core.specs.Causes.{Rose}
 use Rattle.problem_core.specs.Facts.{Facts}
