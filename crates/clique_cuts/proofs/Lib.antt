@@ -1,3 +1,4 @@
 pub mod CliqueLaws
+pub mod GivenLaws
 pub mod SearchLaws
 pub mod BetterLaws

@@ -83,19 +83,19 @@ all_at test [] i d h l = absurd (omega arith)
 all_at test (x ∷ xs) zero d h l = (and_parts (test x) (list_all test xs) h).0
 all_at test (x ∷ xs) (suc i) d h l = all_at test xs i d (and_parts (test x) (list_all test xs) h).1 (omega arith)
 
-lt_is : (a b : ℤ) → int_lt a b ≡ true → a <ℤ b
+pub lt_is : (a b : ℤ) → int_lt a b ≡ true → a <ℤ b
 lt_is a b h = grind (arith, ints)
 
 le_is : (a b : ℤ) → int_le a b ≡ true → a ≤ℤ b
 le_is a b h = grind (arith, ints)
 
-lt_not : (a b : ℤ) → int_lt a b ≡ false → b ≤ℤ a
+pub lt_not : (a b : ℤ) → int_lt a b ≡ false → b ≤ℤ a
 lt_not a b h = grind (arith, ints)
 
 le_not : (a b : ℤ) → int_le a b ≡ false → b <ℤ a
 le_not a b h = grind (arith, ints)
 
-lt_yes : (a b : ℤ) → a <ℤ b → int_lt a b ≡ true
+pub lt_yes : (a b : ℤ) → a <ℤ b → int_lt a b ≡ true
 lt_yes a b h = grind (arith, ints)
 
 le_yes : (a b : ℤ) → a ≤ℤ b → int_le a b ≡ true

@@ -45,11 +45,11 @@ pub fn rounded<O: Objective>(
 {
     let entries = falling(alloc, point)?;
     let choice = packed(alloc, at.model, &entries)?;
-    match tested(alloc, at, choice)? {
+    match better_choice(alloc, at, choice)? {
         Some(choice) => Ok(Some(choice)),
         None => {
             let choice = slot_choice(alloc, at.model, point.den, &entries)?;
-            tested(alloc, at, choice)
+            better_choice(alloc, at, choice)
         }
     }
 }
@@ -90,8 +90,10 @@ fn take_free(walk: &mut Walk, m: &Model, pattern: u32) -> Result<(), Memory>
     Ok(())
 }
 
-/// The choice where it is better.
-fn tested<O: Objective>(
+/// The choice, where it is better: it is legal, has the targets of the levels below, reaches the floor, and
+/// weighs more than the best value at the level. Any choice may be asked for, of any number of entries and any
+/// rooms. It fails only where memory runs out.
+pub fn better_choice<O: Objective>(
     alloc: Global,
     at: &ObjectiveAt<O>,
     choice: Choice,

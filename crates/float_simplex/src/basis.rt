@@ -1,5 +1,7 @@
 use crate::elimination::{column_of, eliminate};
-use crate::entries::{add_number, number_at, product_sum, set_number, subtract_multiple, zeros};
+use crate::entries::{
+    add_number, number_at, product_sum, set_number, square_sum, subtract_multiple, zeros,
+};
 use crate::task::{Task, Variable};
 use std::alloc::{AllocError, Global};
 
@@ -21,6 +23,8 @@ pub(crate) struct Basis {
     pub inverse: Vec<Vec<f64>>,
     /// The values of the basis's variables, by place.
     pub values: Vec<f64>,
+    /// The sums of the squares of the inverse's rows, by place, where they are known.
+    squares: Vec<Option<f64>>,
 }
 
 /// The entry of a list of places; none beyond its end.
@@ -60,6 +64,7 @@ impl Basis {
             slack_places: Vec::new(alloc),
             inverse: Vec::new(alloc),
             values: Vec::new(alloc),
+            squares: Vec::new(alloc),
         })
     }
 
@@ -72,6 +77,7 @@ impl Basis {
         let slack_places = Vec::from_slice(alloc, self.slack_places.as_slice())?;
         let inverse = copy_inverse(alloc, self.inverse.as_slice())?;
         let values = Vec::from_slice(alloc, self.values.as_slice())?;
+        let squares = Vec::from_slice(alloc, self.squares.as_slice())?;
         Ok(Basis {
             rows,
             positions,
@@ -80,6 +86,7 @@ impl Basis {
             slack_places,
             inverse,
             values,
+            squares,
         })
     }
 
@@ -114,6 +121,34 @@ impl Basis {
         }
     }
 
+    /// The sum of the squares of the inverse's row at a place, which is kept until the row changes.
+    pub(crate) fn square(&mut self, place: usize) -> f64 {
+        if let Some(Some(square)) = self.squares.get(place) {
+            return *square;
+        }
+        let square = square_sum(self.inverse_row(place));
+        if let Some(entry) = self.squares.get_mut(place) {
+            *entry = Some(square);
+        }
+        square
+    }
+
+    /// Forgets the sums of squares of the rows that have an entry in a column.
+    fn forget_squares(&mut self, column: &[f64]) {
+        for (square, entry) in self.squares.iter_mut().zip(column.iter()) {
+            if *entry != 0.0 {
+                *square = None;
+            }
+        }
+    }
+
+    /// Forgets all sums of squares.
+    pub(crate) fn forget_all_squares(&mut self) {
+        for square in self.squares.iter_mut() {
+            *square = None;
+        }
+    }
+
     /// The value at a place.
     pub(crate) fn value(&self, place: usize) -> f64 {
         number_at(self.values.as_slice(), place)
@@ -143,6 +178,7 @@ impl Basis {
         }
         self.inverse.push(numbers)?;
         self.values.push(value)?;
+        self.squares.push(None)?;
         self.rows.push(row)?;
         self.variables.push(Variable::Slack(row))?;
         set_place_in(self.positions.as_mut_slice(), row, Some(count));
@@ -224,6 +260,7 @@ impl Basis {
             *entry = variable;
         }
         self.set_place(variable, Some(place));
+        self.forget_squares(column);
         eliminate(alloc, self.inverse.as_mut_slice(), place, column, 1e-12)
     }
 

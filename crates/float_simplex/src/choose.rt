@@ -1,5 +1,5 @@
 use crate::basis::Basis;
-use crate::entries::{add_number, square_sum, zeros};
+use crate::entries::{add_number, zeros};
 use crate::reduced::Reduced;
 use crate::task::{Task, Variable};
 use std::alloc::{AllocError, Global};
@@ -26,13 +26,13 @@ fn violation(fixed: bool, value: f64) -> f64 {
 
 /// The place of the variable that leaves: the one whose value breaks its bounds by most, in proportion to the
 /// length of its row of the inverse. None where no bound is broken.
-pub(crate) fn leaving(task: &Task, basis: &Basis) -> Option<usize> {
+pub(crate) fn leaving(task: &Task, basis: &mut Basis) -> Option<usize> {
     let mut best = None;
     let mut greatest = 0.0;
-    for (place, variable) in basis.variables.iter().enumerate() {
-        let broken = violation(task.is_fixed(*variable), basis.value(place));
+    for place in 0..basis.variables.len() {
+        let broken = broken_by(task, basis, place);
         if broken > TOLERANCE {
-            let score = broken * broken / square_sum(basis.inverse_row(place));
+            let score = broken * broken / basis.square(place);
             if score > greatest {
                 greatest = score;
                 best = Some(place);
@@ -40,6 +40,14 @@ pub(crate) fn leaving(task: &Task, basis: &Basis) -> Option<usize> {
         }
     }
     best
+}
+
+/// By how much the value at a place breaks its bounds.
+fn broken_by(task: &Task, basis: &Basis, place: usize) -> f64 {
+    match basis.variables.get(place) {
+        Some(variable) => violation(task.is_fixed(*variable), basis.value(place)),
+        None => 0.0,
+    }
 }
 
 /// By column, its entry in the row of the tableau that belongs to this row of the inverse.

@@ -146,6 +146,7 @@ pub(crate) fn invert(alloc: Global, task: &Task, basis: &mut Basis) -> Result<()
     let mut elimination = Elimination::new(alloc, basis)?;
     add_columns(alloc, task, basis, &mut elimination)?;
     elimination.finish(basis);
+    basis.forget_all_squares();
     Ok(())
 }
 

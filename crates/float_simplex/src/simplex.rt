@@ -105,7 +105,7 @@ impl FloatSimplex {
             if self.since >= REFRESH {
                 self.refresh()?;
             }
-            let Some(place) = leaving(&self.task, &self.basis) else {
+            let Some(place) = leaving(&self.task, &mut self.basis) else {
                 if self.enforce_broken()? {
                     continue;
                 }
@@ -265,14 +265,22 @@ impl FloatSimplex {
     /// After `Empty`, the multipliers of the rows that show it, 0 where a row is not in force. The sum of
     /// multipliers times sides is over 0. Those of the rows of a column that is not held sum to 0 at most, and only
     /// equations have any over 0.
-    pub fn farkas(&self, alloc: Global) -> Result<Vec<f64>, AllocError> {
+    pub fn farkas(&mut self, alloc: Global) -> Result<Vec<f64>, AllocError> {
+        let place = leaving(&self.task, &mut self.basis);
+        self.row_at(alloc, place)
+    }
+
+    /// By row, its number in the inverse's row at a place, negated where the value there is below 0; 0 where the row
+    /// is not in force.
+    fn row_at(&self, alloc: Global, place: Option<usize>) -> Result<Vec<f64>, AllocError> {
         let mut by_row = zeros(alloc, self.task.rows.len())?;
-        if let Some(place) = leaving(&self.task, &self.basis) {
-            let sign = self.sign(place);
-            let numbers = self.basis.inverse_row(place);
-            for (row, number) in self.basis.rows.iter().zip(numbers.iter()) {
-                set_number(by_row.as_mut_slice(), *row, sign * *number);
-            }
+        let Some(place) = place else {
+            return Ok(by_row);
+        };
+        let sign = self.sign(place);
+        let numbers = self.basis.inverse_row(place);
+        for (row, number) in self.basis.rows.iter().zip(numbers.iter()) {
+            set_number(by_row.as_mut_slice(), *row, sign * *number);
         }
         Ok(by_row)
     }

@@ -4,10 +4,10 @@ use crate::additive::adds_up;
 use crate::face::unit_weight;
 use crate::points::{exact_point, point_reached, whole_choice};
 use crate::reading::weight_of;
-use crate::relaxed::Relaxed;
-use crate::rounding::rounded_leaf;
+use crate::relaxed::{Relaxed, is_root};
+use crate::rounding::{empty_leaf, rounded_leaf};
 use crate::slots::SlotRooms;
-use crate::walk::{Ground, Rooms, walked};
+use crate::walk::{Ground, next, walked};
 use duality::{Leaf, Objective};
 use exact_num::Arith;
 use float_simplex::Ended;
@@ -22,9 +22,11 @@ const ROOT_PIVOTS: u32 = 100_000;
 const NODE_PIVOTS: u32 = 20_000;
 
 /// The draws of the walks, one after the other: at most these, and so many times the pairs that may be drawn.
-const DRAWS: [u64; 4] = [1_000_000, 1_000_000, 2_000_000, 4_000_000];
+const DRAWS: [u64; 6] = [
+    1_000_000, 1_000_000, 2_000_000, 2_000_000, 4_000_000, 8_000_000,
+];
 
-const DRAWS_A_PAIR: u64 = 1_000;
+const DRAWS_A_PAIR: u64 = 5_000;
 
 /// What is nearer to a bound than this is taken to reach it.
 const NEAR: f64 = 0.000_1;
@@ -99,11 +101,6 @@ fn additive_levels<O: Objective>(at: &ObjectiveAt<O>) -> u32 {
         }
     }
     at.level
-}
-
-/// Whether nothing is taken or left out.
-fn is_root<O: Objective>(at: &ObjectiveAt<O>) -> bool {
-    at.fixing.one.as_slice().is_empty() && at.fixing.zero.as_slice().is_empty()
 }
 
 /// The choice of rooms given slot by slot where it weighs more than the best value, else the leaf of their prices.
@@ -198,11 +195,12 @@ fn guess_relaxed<O: Objective>(
     } else {
         NODE_PIVOTS
     };
-    match relaxed.simplex.solve(pivots, most + NEAR)? {
+    match relaxed.now.simplex.solve(pivots, most + NEAR)? {
         Ended::Above => rounded_leaf(alloc, at, relaxed),
-        Ended::Best if relaxed.simplex.value() > most + NEAR => rounded_leaf(alloc, at, relaxed),
+        Ended::Best if relaxed.now.simplex.value() > most + NEAR => rounded_leaf(alloc, at, relaxed),
         Ended::Best => guess_reached(alloc, at, relaxed),
-        _ => Ok(None),
+        Ended::Empty => empty_leaf(alloc, at, relaxed),
+        Ended::Limit => Ok(None),
     }
 }
 
@@ -216,7 +214,7 @@ fn most_cost<O: Objective>(at: &ObjectiveAt<O>, relaxed: &Relaxed) -> Option<f64
     let most = shift
         .wrapping_sub(best)
         .wrapping_sub(1)
-        .wrapping_sub(relaxed.paid);
+        .wrapping_sub(relaxed.now.paid);
     Some(nearest_i64_to_f64(most))
 }
 
@@ -237,7 +235,8 @@ fn guess_reached<O: Objective>(
     exact_point(alloc, at, relaxed, &found)
 }
 
-/// A better choice by the walks that are left at the root of a level that counts pairs of course and room.
+/// A better choice by the walks that are left at the root of a level that counts pairs of course and room. Each goes
+/// on from the rooms of the last one; one that finds nothing better is the last of its length.
 fn walk_on<O: Objective>(
     alloc: Global,
     at: &ObjectiveAt<O>,
@@ -247,16 +246,17 @@ fn walk_on<O: Objective>(
         return Ok(None);
     }
     let ground = Ground::new(alloc, at, &relaxed.face)?;
-    let mut rooms = Rooms::of_face(alloc, at, &relaxed.face, &ground)?;
-    let goal = saturating_f64_to_u32(relaxed.simplex.value() + 1.0 - NEAR);
+    let mut rooms = relaxed.rooms_walked(alloc, at, &ground)?;
+    let goal = saturating_f64_to_u32(relaxed.now.simplex.value() + 1.0 - NEAR);
+    let most = ground.pair_count().saturating_mul(DRAWS_A_PAIR);
     for draws in DRAWS.iter().skip(relaxed.walks as usize) {
-        relaxed.walks = relaxed.walks.wrapping_add(1);
-        let seed = 88_172_645_463_325_252;
-        let most = ground.pair_count().saturating_mul(DRAWS_A_PAIR);
-        rooms = walked(alloc, &ground, &rooms, most.min(*draws), seed, goal)?;
+        relaxed.seed = next(relaxed.seed);
+        rooms = walked(alloc, &ground, &rooms, most.min(*draws), relaxed.seed, goal)?;
         if is_more(at, 0 - i64::from(rooms.used)) {
+            relaxed.walked = Some(rooms.copy(alloc)?);
             return Ok(Some(rooms.choice(alloc, at.model)?));
         }
+        relaxed.walks = relaxed.walks.wrapping_add(1);
     }
     Ok(None)
 }

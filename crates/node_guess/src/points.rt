@@ -26,7 +26,7 @@ pub fn point_reached(alloc: Global, relaxed: &Relaxed) -> Result<Reached, Memory
         in_part: Items::new(alloc),
         wholly: Items::new(alloc),
     };
-    let point = relaxed.simplex.point(alloc)?;
+    let point = relaxed.now.simplex.point(alloc)?;
     for entry in point.as_slice() {
         if entry.1 > 1.0 - NEAR {
             reached.wholly.push(entry.0)?;
@@ -80,7 +80,7 @@ pub fn exact_point<O: Objective>(
     relaxed: &Relaxed,
     reached: &Reached,
 ) -> Result<Option<Guess>, Memory> {
-    let count = relaxed.simplex.column_count() as usize;
+    let count = relaxed.now.simplex.column_count() as usize;
     let mut unknowns = vec![in alloc; NONE; count]?;
     number_unknowns(&mut unknowns, reached.in_part.as_slice());
     let mut wholly = vec![in alloc; false; count]?;
@@ -116,10 +116,10 @@ fn equations(
     wholly: &[bool],
 ) -> Result<Items<Equation>, Memory> {
     let mut equations = Items::new(alloc);
-    let rows = relaxed.simplex.tight_rows(alloc)?;
+    let rows = relaxed.now.simplex.tight_rows(alloc)?;
     let mut keyed = Vec::new(alloc);
     for row in rows.as_slice() {
-        let length = count_of(relaxed.simplex.columns_of(*row));
+        let length = count_of(relaxed.now.simplex.columns_of(*row));
         if keyed.push((length, *row)).is_err() {
             return Err(Memory);
         }
@@ -142,9 +142,9 @@ fn equation(
     wholly: &[bool],
     row: u32,
 ) -> Result<Equation, Memory> {
-    let mut side = saturating_f64_to_i64(relaxed.simplex.side(row));
+    let mut side = saturating_f64_to_i64(relaxed.now.simplex.side(row));
     let mut found = Items::new(alloc);
-    for column in relaxed.simplex.columns_of(row) {
+    for column in relaxed.now.simplex.columns_of(row) {
         let unknown = item_at(unknowns, *column, NONE);
         if unknown != NONE {
             found.push(unknown)?;

@@ -1,6 +1,7 @@
 use crate::face::{Face, unit_weight};
 use crate::lists::{count_of, item_at, put};
 use crate::reading::{runs_of, weight_of};
+use crate::walk::{Ground, Rooms};
 use duality::{Objective, RowName, Run};
 use float_simplex::FloatSimplex;
 use packing_model::{Model, ObjectiveAt};
@@ -25,26 +26,21 @@ pub struct Relaxed {
     pub columns: Vec<u32>,
     /// By base row, what of the gains is taken off as a multiple of the row, so that no cost is negative.
     pub shifts: Vec<i64>,
-    /// By row of the program, its name.
+    /// By row of the program before the cuts, its name.
     pub names: Items<RowName>,
-    /// By base row, its row in the program or `NONE`.
-    pub rows: Vec<u32>,
-    pub simplex: FloatSimplex,
-    /// The number of cuts that are in it, and the row of the first.
-    pub cuts: u32,
-    /// The patterns that are left out in it, and taken.
-    pub zero: Items<u32>,
-    pub one: Items<u32>,
-    /// What the patterns that are taken cost.
-    pub paid: i64,
-    /// How many walks were made.
+    /// The program as it stood when the root was left.
+    pub root: Option<NodeProgram>,
+    /// The program at the node.
+    pub now: NodeProgram,
+    /// The rooms of the last walk that found something better, how many found nothing, and the seed of the last.
+    pub walked: Option<Rooms>,
     pub walks: u32,
+    pub seed: u64,
 }
 
 impl Relaxed {
     /// A program without columns.
     pub fn empty(alloc: Global, level: u32) -> Result<Relaxed, Memory> {
-        let simplex = FloatSimplex::new(alloc, &[], &[])?;
         Ok(Relaxed {
             level,
             face: Face::empty(alloc),
@@ -52,14 +48,25 @@ impl Relaxed {
             columns: Vec::new(alloc),
             shifts: Vec::new(alloc),
             names: Items::new(alloc),
-            rows: Vec::new(alloc),
-            simplex,
-            cuts: 0,
-            zero: Items::new(alloc),
-            one: Items::new(alloc),
-            paid: 0,
+            root: None,
+            now: NodeProgram::new(alloc, FloatSimplex::new(alloc, &[], &[])?),
+            walked: None,
             walks: 0,
+            seed: 88_172_645_463_325_252,
         })
+    }
+
+    /// The rooms of the last walk that found something better; where there was none, those of the face.
+    pub fn rooms_walked<O: Objective>(
+        &self,
+        alloc: Global,
+        at: &ObjectiveAt<O>,
+        ground: &Ground,
+    ) -> Result<Rooms, Memory> {
+        match &self.walked {
+            Some(rooms) => rooms.copy(alloc),
+            None => Rooms::of_face(alloc, at, &self.face, ground),
+        }
     }
 
     /// Makes it the program at the root of its level, where the levels above the face's weigh all patterns alike;
@@ -82,7 +89,6 @@ impl Relaxed {
             return Ok(false);
         }
         self.columns = columns_of(alloc, at.model.patterns().len(), self.live.as_slice())?;
-        self.rows = vec![in alloc; NONE; at.model.base_len() as usize]?;
         self.add_rows(alloc, at)
     }
 
@@ -96,7 +102,7 @@ impl Relaxed {
             return Ok(false);
         };
         let twins = twins(alloc, self.live.as_slice())?;
-        self.simplex = FloatSimplex::new(alloc, &costs, &twins)?;
+        self.now = NodeProgram::new(alloc, FloatSimplex::new(alloc, &costs, &twins)?);
         Ok(true)
     }
 }
@@ -249,9 +255,8 @@ impl Relaxed {
         if columns.is_empty() {
             return Ok(());
         }
-        let number = self.simplex.add_row(columns, is_tight, 1.0)?;
+        let _ = self.now.simplex.add_row(columns, is_tight, 1.0)?;
         self.names.push(RowName::Base(row))?;
-        put(&mut self.rows, row, number);
         Ok(())
     }
 
@@ -268,6 +273,7 @@ impl Relaxed {
             };
             let target = item_at(at.targets, below, 0).wrapping_mul(weight);
             let _ = self
+                .now
                 .simplex
                 .add_row(all.as_slice(), true, nearest_i64_to_f64(target))?;
             self.names.push(RowName::Level(below + 1))?;
@@ -275,17 +281,29 @@ impl Relaxed {
         Ok(true)
     }
 
-    /// Adds the cuts that are new in the pool, and holds what was taken or left out since. False where the node
-    /// isn't one behind the last, or a pattern is taken that can't be.
+    /// The name of the program's row; cuts stand behind the others.
+    pub fn name(&self, row: u32) -> RowName {
+        match self.names.as_slice().get(row as usize) {
+            Some(name) => *name,
+            None => RowName::Cut(row.wrapping_sub(count_of(self.names.as_slice()))),
+        }
+    }
+
+    /// Brings the program to the node: from where it stands, or from the root, adds the cuts that are new in the
+    /// pool, and holds what was taken or left out since. False where the node is none of the program's, or a
+    /// pattern is taken that can't be.
     pub fn follow<O: Objective>(
         &mut self,
         alloc: Global,
         at: &ObjectiveAt<O>,
     ) -> Result<bool, Memory> {
-        if self.level != at.level
-            || !starts_with(at.fixing.zero.as_slice(), self.zero.as_slice())
-            || !starts_with(at.fixing.one.as_slice(), self.one.as_slice())
-        {
+        if self.level != at.level {
+            return Ok(false);
+        }
+        if self.now.is_root() && !is_root(at) {
+            self.root = Some(self.now.copy(alloc)?);
+        }
+        if !self.now.is_before(at) && !self.return_to_root(alloc)? {
             return Ok(false);
         }
         self.add_cuts(alloc, at)?;
@@ -293,12 +311,23 @@ impl Relaxed {
         self.take(at)
     }
 
+    /// Brings the program back to where it stood when the root was left; false where it was never left.
+    fn return_to_root(&mut self, alloc: Global) -> Result<bool, Memory> {
+        match &self.root {
+            Some(root) => {
+                self.now = root.copy(alloc)?;
+                Ok(true)
+            }
+            None => Ok(false),
+        }
+    }
+
     /// Adds the cuts that are new.
     fn add_cuts<O: Objective>(&mut self, alloc: Global, at: &ObjectiveAt<O>) -> Result<(), Memory> {
-        for cut in self.cuts..at.pool.len() {
+        for cut in self.now.cuts..at.pool.len() {
             self.add_cut(alloc, at, cut)?;
         }
-        self.cuts = at.pool.len();
+        self.now.cuts = at.pool.len();
         Ok(())
     }
 
@@ -319,36 +348,39 @@ impl Relaxed {
             if column != NONE {
                 columns.push(column)?;
             }
-            if self.one.as_slice().contains(pattern) {
+            if self.now.one.as_slice().contains(pattern) {
                 side = 0.0;
             }
         }
-        let _ = self.simplex.add_row(columns.as_slice(), false, side)?;
-        self.names.push(RowName::Cut(cut))?;
+        let _ = self
+            .now
+            .simplex
+            .add_row(columns.as_slice(), false, side)?;
         Ok(())
     }
 
     /// Holds the columns of patterns that were left out since.
     fn leave_out<O: Objective>(&mut self, at: &ObjectiveAt<O>) -> Result<(), Memory> {
-        let known = self.zero.len();
+        let known = self.now.zero.len();
         for pattern in at.fixing.zero.as_slice().iter().skip(known) {
             let column = item_at(&self.columns, *pattern, NONE);
-            self.simplex.hold(column);
-            self.zero.push(*pattern)?;
+            self.now.simplex.hold(column);
+            self.now.zero.push(*pattern)?;
         }
         Ok(())
     }
 
     /// Fills the rows of patterns that were taken since; false where one has no column.
     fn take<O: Objective>(&mut self, at: &ObjectiveAt<O>) -> Result<bool, Memory> {
-        let known = self.one.len();
+        let known = self.now.one.len();
         for pattern in at.fixing.one.as_slice().iter().skip(known) {
             if item_at(&self.columns, *pattern, NONE) == NONE {
                 return Ok(false);
             }
             self.fill_rows(*pattern);
-            self.paid = self.paid.wrapping_add(cost_of(at, &self.shifts, *pattern));
-            self.one.push(*pattern)?;
+            let cost = cost_of(at, &self.shifts, *pattern);
+            self.now.paid = self.now.paid.wrapping_add(cost);
+            self.now.one.push(*pattern)?;
         }
         Ok(true)
     }
@@ -356,18 +388,74 @@ impl Relaxed {
     /// Fills each row that the pattern stands in.
     fn fill_rows(&mut self, pattern: u32) {
         let column = item_at(&self.columns, pattern, NONE);
-        let count = count_of(self.simplex.rows_of(column));
+        let count = count_of(self.now.simplex.rows_of(column));
         for place in 0..count {
-            let row = item_at(self.simplex.rows_of(column), place, NONE);
-            match self.names.as_slice().get(row as usize) {
-                Some(RowName::Level(_)) => {
-                    let side = self.simplex.side(row);
-                    self.simplex.set_side(row, side - 1.0);
+            let row = item_at(self.now.simplex.rows_of(column), place, NONE);
+            match self.name(row) {
+                RowName::Level(_) => {
+                    let side = self.now.simplex.side(row);
+                    self.now.simplex.set_side(row, side - 1.0);
                 }
-                _ => self.fill_row(row),
+                _ => self.now.fill_row(row),
             }
         }
-        self.simplex.hold(column);
+        self.now.simplex.hold(column);
+    }
+
+    /// Whether the pattern is free, and no column: then its cost in the face is the one to be seen to.
+    pub fn is_dead<O: Objective>(&self, at: &ObjectiveAt<O>, pattern: u32) -> bool {
+        item_at(&self.columns, pattern, NONE) == NONE && is_open(at, pattern)
+    }
+}
+
+/// The program as it stands at a node.
+#[derive(Drop)]
+pub struct NodeProgram {
+    pub simplex: FloatSimplex,
+    /// The number of cuts that are in it.
+    pub cuts: u32,
+    /// The patterns that are left out in it, and taken.
+    pub zero: Items<u32>,
+    pub one: Items<u32>,
+    /// What the patterns that are taken cost.
+    pub paid: i64,
+}
+
+impl NodeProgram {
+    /// The program at the root, without cuts.
+    fn new(alloc: Global, simplex: FloatSimplex) -> NodeProgram {
+        NodeProgram {
+            simplex,
+            cuts: 0,
+            zero: Items::new(alloc),
+            one: Items::new(alloc),
+            paid: 0,
+        }
+    }
+
+    /// A copy.
+    fn copy(&self, alloc: Global) -> Result<NodeProgram, Memory> {
+        let simplex = self.simplex.copy(alloc)?;
+        let zero = Vec::from_slice(alloc, self.zero.as_slice())?;
+        let one = Vec::from_slice(alloc, self.one.as_slice())?;
+        Ok(NodeProgram {
+            simplex,
+            cuts: self.cuts,
+            zero: Items::from(zero),
+            one: Items::from(one),
+            paid: self.paid,
+        })
+    }
+
+    /// Whether nothing is taken or left out in it.
+    fn is_root(&self) -> bool {
+        self.zero.as_slice().is_empty() && self.one.as_slice().is_empty()
+    }
+
+    /// Whether all that is taken or left out in it is so at the node, in the same order.
+    fn is_before<O: Objective>(&self, at: &ObjectiveAt<O>) -> bool {
+        starts_with(at.fixing.zero.as_slice(), self.zero.as_slice())
+            && starts_with(at.fixing.one.as_slice(), self.one.as_slice())
     }
 
     /// Fills the row: no other of its columns can be taken.
@@ -381,11 +469,11 @@ impl Relaxed {
             }
         }
     }
+}
 
-    /// Whether the pattern is free, and no column: then its cost in the face is the one to be seen to.
-    pub fn is_dead<O: Objective>(&self, at: &ObjectiveAt<O>, pattern: u32) -> bool {
-        item_at(&self.columns, pattern, NONE) == NONE && is_open(at, pattern)
-    }
+/// Whether nothing is taken or left out at the node.
+pub fn is_root<O: Objective>(at: &ObjectiveAt<O>) -> bool {
+    at.fixing.one.as_slice().is_empty() && at.fixing.zero.as_slice().is_empty()
 }
 
 /// Whether the pattern is free at the node.

@@ -27,7 +27,8 @@ const SCALES: [i64; 12] = [
     100_000_000,
 ];
 
-/// Whole multipliers of the rows: of base rows, of cuts and of levels.
+/// Whole multipliers of the rows: of base rows, of cuts and of levels, with the multiple of the gain that they are
+/// to cover: 0 where they show that no point meets the rows.
 #[derive(Drop)]
 struct Multipliers {
     scale: i64,
@@ -45,24 +46,56 @@ pub fn rounded_leaf<O: Objective>(
     at: &ObjectiveAt<O>,
     relaxed: &Relaxed,
 ) -> Result<Option<Guess>, Memory> {
-    let exact = relaxed.simplex.multipliers(alloc)?;
+    let exact = relaxed.now.simplex.multipliers(alloc)?;
     for scale in SCALES {
-        let mut rounded = rounded(alloc, at, relaxed, &exact, scale)?;
-        rounded.cover(at, relaxed);
-        if rounded.closes(at, relaxed) {
-            let lift = rounded.lift(at, relaxed);
-            return Ok(Some(rounded.leaf(alloc, relaxed, lift)?));
+        let rounded = rounded(alloc, at, relaxed, &exact, scale, scale)?;
+        if let Some(leaf) = closed(alloc, at, relaxed, rounded)? {
+            return Ok(Some(leaf));
         }
     }
     Ok(None)
 }
 
-/// The multipliers rounded at the scale.
+/// The leaf of the multipliers that show that no point meets the program's rows, at the first scale at which it
+/// closes. It fails only where memory runs out.
+pub fn empty_leaf<O: Objective>(
+    alloc: Global,
+    at: &ObjectiveAt<O>,
+    relaxed: &mut Relaxed,
+) -> Result<Option<Guess>, Memory> {
+    let exact = relaxed.now.simplex.farkas(alloc)?;
+    for scale in SCALES {
+        let rounded = rounded(alloc, at, relaxed, &exact, scale, 0)?;
+        if let Some(leaf) = closed(alloc, at, relaxed, rounded)? {
+            return Ok(Some(leaf));
+        }
+    }
+    Ok(None)
+}
+
+/// The leaf of the multipliers where it closes.
+fn closed<O: Objective>(
+    alloc: Global,
+    at: &ObjectiveAt<O>,
+    relaxed: &Relaxed,
+    rounded: Multipliers,
+) -> Result<Option<Guess>, Memory> {
+    let mut rounded = rounded;
+    rounded.cover(at, relaxed);
+    if !rounded.closes(at, relaxed) {
+        return Ok(None);
+    }
+    let lift = rounded.lift(at, relaxed);
+    Ok(Some(rounded.leaf(alloc, relaxed, lift)?))
+}
+
+/// The multipliers times a factor, rounded.
 fn rounded<O: Objective>(
     alloc: Global,
     at: &ObjectiveAt<O>,
     relaxed: &Relaxed,
     exact: &[f64],
+    factor: i64,
     scale: i64,
 ) -> Result<Multipliers, Memory> {
     let mut rounded = Multipliers {
@@ -71,21 +104,19 @@ fn rounded<O: Objective>(
         cuts: vec![in alloc; 0; at.pool.len() as usize]?,
         levels: [0; LEVELS],
     };
-    for number in 0..relaxed.simplex.row_count() {
-        let times = nearest(item_at(exact, number, 0.0), scale);
-        let is_equation = relaxed.simplex.is_equation(number);
+    for number in 0..relaxed.now.simplex.row_count() {
+        let times = nearest(item_at(exact, number, 0.0), factor);
+        let is_equation = relaxed.now.simplex.is_equation(number);
         let times = if is_equation { times } else { times.max(0) };
-        if let Some(name) = relaxed.names.as_slice().get(number as usize) {
-            rounded.set(at, *name, times);
-        }
+        rounded.set(at, relaxed.name(number), times);
     }
     rounded.add_shifts(relaxed);
     Ok(rounded)
 }
 
-/// The negated number times the scale, rounded.
-fn nearest(number: f64, scale: i64) -> i128 {
-    let product = 0.0 - number * nearest_i64_to_f64(scale);
+/// The negated number times the factor, rounded.
+fn nearest(number: f64, factor: i64) -> i128 {
+    let product = 0.0 - number * nearest_i64_to_f64(factor);
     let whole = if product < 0.0 {
         saturating_f64_to_i64(product - 0.5)
     } else {
@@ -176,11 +207,9 @@ impl Multipliers {
         };
         let scale = i128::from(self.scale);
         let mut bound: i128 = 0;
-        for number in 0..relaxed.simplex.row_count() {
-            if let Some(name) = relaxed.names.as_slice().get(number as usize) {
-                let side = saturating_f64_to_i64(relaxed.simplex.side(number));
-                bound = bound.wrapping_add(self.worth(at, *name, i128::from(side)));
-            }
+        for number in 0..relaxed.now.simplex.row_count() {
+            let side = saturating_f64_to_i64(relaxed.now.simplex.side(number));
+            bound = bound.wrapping_add(self.worth(at, relaxed.name(number), i128::from(side)));
         }
         for pattern in at.fixing.one.as_slice() {
             let gain = i128::from(weight_of(at, at.level, *pattern));

@@ -306,7 +306,7 @@ pub fn walked(
 }
 
 /// The next pseudo-random number (xorshift: Marsaglia, 2003).
-fn next(state: u64) -> u64 {
+pub fn next(state: u64) -> u64 {
     let first = state ^ (state << 13);
     let second = first ^ (first >> 7);
     second ^ (second << 17)

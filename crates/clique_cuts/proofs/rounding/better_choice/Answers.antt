@@ -8,7 +8,7 @@ use Rattle.duality.specs.Packing.{Weights}
 use Rattle.packing_model.specs.Closing.{counted}
 use Rattle.search_nodes.proofs.ChoiceLaws.{chosen_are, chosen_known}
 use Rattle.clique_cuts.proofs.BetterLaws.{chosen_better}
-use Rattle.clique_cuts.proofs.rounding.tested.Goals as goal
+use Rattle.clique_cuts.proofs.rounding.better_choice.Goals as goal
 
 pub is_better-requires-clause-list : goal.is_better-requires-clause-list
 is_better-requires-clause-list g c =
