@@ -19,3 +19,5 @@ pub mod EntryLaws
 pub mod ColumnLaws
 pub mod TaskLaws
 pub mod SideLaws
+pub mod GuessedLaws
+pub mod GivenLaws

@@ -77,7 +77,7 @@ at_most_one : (b : Bool) → (pos 0 ≤ℤ picked b (pos 1)) × (picked b (pos 1
 at_most_one true = (omega (arith, ints), omega (arith, ints))
 at_most_one false = (omega (arith, ints), omega (arith, ints))
 
-stands_few : (k : Packing) (w : Weights) (s : Stage) (r : RowName) (p : ℕ) → (pos 0 ≤ℤ stands k w s r p) × (stands k w s r p ≤ℤ pos 1)
+pub stands_few : (k : Packing) (w : Weights) (s : Stage) (r : RowName) (p : ℕ) → (pos 0 ≤ℤ stands k w s r p) × (stands k w s r p ≤ℤ pos 1)
 stands_few k w s (Base r) p = at_most_one (k.in_base r p)
 stands_few k w s (Cut c) p = at_most_one _
 stands_few k w s (Level j) p = (omega (arith, ints), omega (arith, ints))

@@ -23,3 +23,11 @@ BoundsExactly p w s f wides wides' steps steps' (Better a) = Bounds p w s f wide
 BoundsExactly p w s f wides wides' steps steps' (Gap x) = Bounds p w s f wides wides' steps steps' (Gap x)
 BoundsExactly p w s f wides wides' steps steps' (Wide before after) = Bounds p w s f wides wides' steps steps' (Wide before after)
 BoundsExactly p w s f wides wides' steps steps' (Stalled pivots) = (pivots ≡ limit_of (packing p) w s f) × (steps' ≡ steps + pivots) × (has_free (packing p) f ≡ true)
+
+-- the answer, with an earlier count of numbers that did not fit
+abbrev pub since : ℕ → Bounded → Bounded
+since wides (Closed leaf) = Closed leaf
+since wides (Better a) = Better a
+since wides (Gap x) = Gap x
+since wides (Wide before after) = Wide wides after
+since wides (Stalled pivots) = Stalled pivots

@@ -10,3 +10,5 @@ pub mod Exact
 pub mod Places
 pub mod Taken
 pub mod Entries
+pub mod Guessed
+pub mod Given

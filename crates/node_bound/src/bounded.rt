@@ -1,35 +1,27 @@
-ghost use Rattle.std.specs.Prelude.{◌≡◌, ◌≤◌, ◌^◌, Some, IfOk, OnOk};
+ghost use Rattle.std.specs.Prelude.{◌≡◌, ◌≤◌, ◌^◌, true, Some, IfOk, OnOk, MatchOption};
 ghost use Rattle.duality.specs.Sums.{IsValue, IsWithin};
 ghost use Rattle.packing_model.specs.Built.{packing, measured};
 ghost use Rattle.packing_model.specs.Closing.{counted};
 ghost use Rattle.packing_model.specs.Cuts.{IsPoolOf};
 ghost use Rattle.packing_model.specs.Nodes.{AreTargets, IsValidFixing, fixed_of, stage_at};
-ghost use Rattle.node_bound.specs.Bounds.{Bounds, IsBetterChoice, IsLevelAt};
-ghost use Rattle.node_bound.specs.Exact.{BoundsExactly};
+ghost use Rattle.node_bound.specs.Bounds.{Bounds, IsBetterChoice, IsLevelAt, has_free};
+ghost use Rattle.node_bound.specs.Exact.{BoundsExactly, Shows, since};
+ghost use Rattle.node_bound.specs.Fixed.{IsNode};
 
 use crate::fixed::close_fixed_at;
 use crate::free::lowest_free;
+use crate::guess::guess_at;
+use crate::guesses::tested;
 use crate::solve::bound_free;
 use duality::Objective;
 use exact_num::{Arith, Steps};
 use meeting_patterns::pattern_laws;
+use node_guess::Hints;
 use packing_model::{At, Leaf, Measured, ObjectiveAt, Point};
 use problem_core::{Choice, Memory};
 use search_nodes::measured_laws;
 use std::alloc::Global;
 use std::sync::ledger::Ledger;
-
-/// What a search found at earlier nodes and may help at later ones. It decides speed alone: no promise rests
-/// on it.
-#[derive(Drop)]
-pub struct Hints {}
-
-impl Hints {
-    /// Nothing found.
-    pub fn new() -> Hints {
-        Hints {}
-    }
-}
 
 /// What is known at a node: a leaf that closes there; a better choice; a point that meets the rows of the node
 /// and weighs more than the best value, though it makes no choice; that a number of the arithmetic did not
@@ -112,8 +104,67 @@ pub fn bound_at<O: Objective, A: Arith, L: Ledger>(
     ensures wides { OnOk result (A.wides arith.old ≤ A.wides arith.new) }
     ensures steps { steps.old ≤ steps.new }
 {
-    let _ = hints;
-    bound_once(alloc, at, arith, steps)
+    at.model.laws();
+    pattern_laws();
+    match lowest_free(at.model, at.fixing) {
+        Some(_) => bound_guessed(alloc, at, hints, arith, steps),
+        None => close_fixed_at(alloc, at),
+    }
+}
+
+/// What is known at a node where a pattern is free: a guess that passes its test, or else what the node's
+/// linear program shows.
+fn bound_guessed<O: Objective, A: Arith, L: Ledger>(
+    alloc: Global,
+    at: &ObjectiveAt<O>,
+    hints: &mut Hints,
+    arith: &mut A,
+    steps: &mut Steps<L>,
+) -> Result<Bounded, Memory>
+    requires node { IsNode at.now.model.now (O.count at.now.objective.now) (O.levels at.now.objective.now) at.now.level at.now.targets.now at.now.fixing.now }
+    requires pool { IsPoolOf (packing at.now.model.now) at.now.pool.now }
+    requires best { IsValue at.now.best }
+    requires free { has_free (packing at.now.model.now) (fixed_of at.now.fixing.now) ≡ true }
+    ensures bounds { IfOk result (Bounds at.now.model.now (counted (O.weight at.now.objective.now) (O.floor at.now.objective.now)) (stage_at at.now.level at.now.targets.now at.now.best at.now.pool.now) (fixed_of at.now.fixing.now) (A.wides arith.old) (A.wides arith.new) steps.old steps.new) }
+    ensures wides { OnOk result (A.wides arith.old ≤ A.wides arith.new) }
+    ensures steps { steps.old ≤ steps.new }
+{
+    let before = arith.wide_count();
+    if let Some(bounded) = guessed(alloc, at, hints, arith)? {
+        return Ok(bounded);
+    }
+    let bounded = bound_free(alloc, at, arith, steps)?;
+    Ok(since(before, bounded))
+}
+
+/// A guess that passes its test.
+fn guessed<O: Objective, A: Arith>(
+    alloc: Global,
+    at: &ObjectiveAt<O>,
+    hints: &mut Hints,
+    arith: &mut A,
+) -> Result<Option<Bounded>, Memory>
+    requires node { IsNode at.now.model.now (O.count at.now.objective.now) (O.levels at.now.objective.now) at.now.level at.now.targets.now at.now.fixing.now }
+    requires pool { IsPoolOf (packing at.now.model.now) at.now.pool.now }
+    requires best { IsValue at.now.best }
+    requires free { has_free (packing at.now.model.now) (fixed_of at.now.fixing.now) ≡ true }
+    ensures shows { IfOk result (λ found. MatchOption found (Unit {0}) (Shows at.now.model.now (counted (O.weight at.now.objective.now) (O.floor at.now.objective.now)) (stage_at at.now.level at.now.targets.now at.now.best at.now.pool.now) (fixed_of at.now.fixing.now))) }
+    ensures wides { A.wides arith.old ≤ A.wides arith.new }
+{
+    match guess_at(alloc, at, hints, arith)? {
+        Some(guess) => tested(alloc, at, guess),
+        None => Ok(None),
+    }
+}
+
+/// The answer, with an earlier count of numbers that did not fit.
+fn since(before: u64, bounded: Bounded) -> Bounded
+    ensures { result ≡ since before bounded }
+{
+    match bounded {
+        Bounded::Wide { after, .. } => Bounded::Wide { before, after },
+        other => other,
+    }
 }
 
 /// The same without hints: where the pivots were spent they are exactly those that the node may spend.

@@ -197,7 +197,9 @@ fn guess_relaxed<O: Objective>(
     };
     match relaxed.now.simplex.solve(pivots, most + NEAR)? {
         Ended::Above => rounded_leaf(alloc, at, relaxed),
-        Ended::Best if relaxed.now.simplex.value() > most + NEAR => rounded_leaf(alloc, at, relaxed),
+        Ended::Best if relaxed.now.simplex.value() > most + NEAR => rounded_leaf(
+            alloc, at, relaxed,
+        ),
         Ended::Best => guess_reached(alloc, at, relaxed),
         Ended::Empty => empty_leaf(alloc, at, relaxed),
         Ended::Limit => Ok(None),

@@ -352,10 +352,7 @@ impl Relaxed {
                 side = 0.0;
             }
         }
-        let _ = self
-            .now
-            .simplex
-            .add_row(columns.as_slice(), false, side)?;
+        let _ = self.now.simplex.add_row(columns.as_slice(), false, side)?;
         Ok(())
     }
 
