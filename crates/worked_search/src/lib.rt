@@ -11,8 +11,6 @@ mod float_programs;
 #[cfg(test)]
 mod floors;
 #[cfg(test)]
-mod guesses;
-#[cfg(test)]
 mod levels;
 #[cfg(test)]
 mod model;
