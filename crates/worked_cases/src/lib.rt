@@ -7,6 +7,8 @@ mod certificate;
 #[cfg(test)]
 mod closing;
 #[cfg(test)]
+mod demo;
+#[cfg(test)]
 mod fixed;
 #[cfg(test)]
 mod fractions;
