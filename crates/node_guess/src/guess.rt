@@ -2,12 +2,13 @@ ghost use Rattle.std.specs.Prelude.{◌≤◌};
 
 use crate::additive::adds_up;
 use crate::face::unit_weight;
+use crate::ground::Ground;
 use crate::points::{exact_point, point_reached, whole_choice};
 use crate::reading::weight_of;
 use crate::relaxed::{Relaxed, is_root};
 use crate::rounding::{empty_leaf, rounded_leaf};
 use crate::slots::SlotRooms;
-use crate::walk::{Ground, next, walked};
+use crate::walk::walked;
 use duality::{Leaf, Objective};
 use exact_num::Arith;
 use float_simplex::Ended;
@@ -21,12 +22,15 @@ const ROOT_PIVOTS: u32 = 100_000;
 
 const NODE_PIVOTS: u32 = 20_000;
 
-/// The draws of the walks, one after the other: at most these, and so many times the pairs that may be drawn.
-const DRAWS: [u64; 6] = [
-    1_000_000, 1_000_000, 2_000_000, 2_000_000, 4_000_000, 8_000_000,
-];
+/// The draws of the walks, one after the other, for each `PAIRS` of the pairs that may be drawn, and once at least.
+const DRAWS: [u64; 5] = [200_000, 200_000, 400_000, 400_000, 800_000];
 
-const DRAWS_A_PAIR: u64 = 5_000;
+const PAIRS: u64 = 600;
+
+/// The seed of the first walk, and what is added for each further one.
+const SEED: u64 = 88_172_645_463_325_252;
+
+const SEED_STEP: u64 = 7_919;
 
 /// What is nearer to a bound than this is taken to reach it.
 const NEAR: f64 = 0.000_1;
@@ -237,28 +241,41 @@ fn guess_reached<O: Objective>(
     exact_point(alloc, at, relaxed, &found)
 }
 
-/// A better choice by the walks that are left at the root of a level that counts pairs of course and room. Each goes
-/// on from the rooms of the last one; one that finds nothing better is the last of its length.
+/// A better choice by the walks that are left at the root of a level that counts pairs of course and room. Each walk is
+/// made once, whether or not it finds something better, and goes on from the best rooms of those before.
 fn walk_on<O: Objective>(
     alloc: Global,
     at: &ObjectiveAt<O>,
     relaxed: &mut Relaxed,
 ) -> Result<Option<Choice>, Memory> {
-    if !is_root(at) || unit_weight(at, at.level) != Some(-1) {
+    let is_over = relaxed.walks as usize >= DRAWS.len();
+    if is_over || !is_root(at) || unit_weight(at, at.level) != Some(-1) {
         return Ok(None);
     }
     let ground = Ground::new(alloc, at, &relaxed.face)?;
     let mut rooms = relaxed.rooms_walked(alloc, at, &ground)?;
     let goal = saturating_f64_to_u32(relaxed.now.simplex.value() + 1.0 - NEAR);
-    let most = ground.pair_count().saturating_mul(DRAWS_A_PAIR);
+    let times = (ground.pair_count() / PAIRS).max(1);
     for draws in DRAWS.iter().skip(relaxed.walks as usize) {
-        relaxed.seed = next(relaxed.seed);
-        rooms = walked(alloc, &ground, &rooms, most.min(*draws), relaxed.seed, goal)?;
+        let seed = seed_of(relaxed.walks);
+        relaxed.walks = relaxed.walks.wrapping_add(1);
+        rooms = walked(
+            alloc,
+            &ground,
+            &rooms,
+            draws.wrapping_mul(times),
+            seed,
+            goal,
+        )?;
         if is_more(at, 0 - i64::from(rooms.used)) {
             relaxed.walked = Some(rooms.copy(alloc)?);
             return Ok(Some(rooms.choice(alloc, at.model)?));
         }
-        relaxed.walks = relaxed.walks.wrapping_add(1);
     }
     Ok(None)
+}
+
+/// The seed of a walk behind so many others.
+fn seed_of(walks: u32) -> u64 {
+    SEED.wrapping_add(u64::from(walks).wrapping_mul(SEED_STEP))
 }

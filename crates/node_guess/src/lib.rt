@@ -4,6 +4,7 @@
 
 mod additive;
 mod face;
+mod ground;
 mod guess;
 mod lists;
 mod modular;

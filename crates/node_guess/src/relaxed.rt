@@ -1,7 +1,8 @@
 use crate::face::{Face, unit_weight};
+use crate::ground::Ground;
 use crate::lists::{count_of, item_at, put};
 use crate::reading::{runs_of, weight_of};
-use crate::walk::{Ground, Rooms};
+use crate::walk::Rooms;
 use duality::{Objective, RowName, Run};
 use float_simplex::FloatSimplex;
 use packing_model::{Model, ObjectiveAt};
@@ -32,10 +33,9 @@ pub struct Relaxed {
     pub root: Option<NodeProgram>,
     /// The program at the node.
     pub now: NodeProgram,
-    /// The rooms of the last walk that found something better, how many found nothing, and the seed of the last.
+    /// The rooms of the last walk that found something better, and how many walks there were.
     pub walked: Option<Rooms>,
     pub walks: u32,
-    pub seed: u64,
 }
 
 impl Relaxed {
@@ -52,7 +52,6 @@ impl Relaxed {
             now: NodeProgram::new(alloc, FloatSimplex::new(alloc, &[], &[])?),
             walked: None,
             walks: 0,
-            seed: 88_172_645_463_325_252,
         })
     }
 

@@ -1,4 +1,5 @@
 use crate::face::Face;
+use crate::ground::{Ground, Pair};
 use crate::lists::{item_at, put};
 use crate::reading::{pattern_of, row_of};
 use crate::relaxed::NONE;
@@ -8,26 +9,11 @@ use problem_core::{Choice, Memory};
 use std::alloc::Global;
 use values::Items;
 
-/// A meeting's row with a row of a room and slot that it may have.
-#[derive(Clone, Copy)]
-struct Pair {
-    event: u32,
-    place: u32,
-    room: u32,
-}
+/// The draws of a round, in which the odds of a walk stay the same.
+const ROUND: u64 = 1_000;
 
-/// Where meetings may be, and which of them and of the rooms and slots can't be left out.
-#[derive(Drop)]
-pub struct Ground {
-    rooms: u32,
-    pairs: Items<Pair>,
-    /// By event row and room, the row of room and slot, or `NONE`.
-    places: Vec<u32>,
-    /// By event row, its course.
-    courses: Vec<u32>,
-    /// By base row, whether it must be met.
-    tight: Vec<bool>,
-}
+/// The odds at a walk's beginning, in millionths.
+const ODDS: u64 = 50_000;
 
 /// Rooms of the meetings, and how many meetings each course has in each room.
 #[derive(Drop)]
@@ -42,78 +28,20 @@ pub struct Rooms {
     pub used: u32,
 }
 
-/// An exchange: the meeting gets the room, and who is there gets the meeting's.
+/// A meeting leaves a room for another; `NONE` stands for no room.
 #[derive(Clone, Copy)]
-struct Exchange {
+struct Change {
     event: u32,
-    place: u32,
-    room: u32,
-    old: u32,
-    other: u32,
+    from: u32,
+    to: u32,
 }
 
-impl Ground {
-    /// The pairs of meeting and room that cost nothing in the face.
-    pub fn new<O: Objective>(
-        alloc: Global,
-        at: &ObjectiveAt<O>,
-        face: &Face,
-    ) -> Result<Ground, Memory> {
-        let rooms = at.model.problem().room_count();
-        let events = face.rooms.layout.events;
-        let size = rooms.wrapping_mul(events);
-        let mut ground = Ground {
-            rooms,
-            pairs: Items::new(alloc),
-            places: vec![in alloc; NONE; size as usize]?,
-            courses: vec![in alloc; 0; events as usize]?,
-            tight: vec![in alloc; false; at.model.base_len() as usize]?,
-        };
-        for row in 0..at.model.base_len() {
-            put(&mut ground.tight, row, face.is_tight(row));
-        }
-        for single in face.rooms.singles.as_slice() {
-            let pattern = pattern_of(at.model, single.pattern);
-            put(&mut ground.courses, single.event, pattern.course);
-            if face.cost(at, single.pattern) == 0 {
-                ground.add(Pair {
-                    event: single.event,
-                    place: single.place,
-                    room: pattern.room,
-                })?;
-            }
-        }
-        Ok(ground)
-    }
-
-    /// The number of pairs.
-    pub fn pair_count(&self) -> u64 {
-        self.pairs.len() as u64
-    }
-
-    /// Adds the pair.
-    fn add(&mut self, pair: Pair) -> Result<(), Memory> {
-        let at = self.at(pair.event, pair.room);
-        put(&mut self.places, at, pair.place);
-        self.pairs.push(pair)?;
-        Ok(())
-    }
-
-    /// The place of the event and the room in the table.
-    fn at(&self, event: u32, room: u32) -> u32 {
-        event.wrapping_mul(self.rooms).wrapping_add(room)
-    }
-
-    /// The row of the room and the event's slot, or `NONE` where the event can't be there.
-    fn place(&self, event: u32, room: u32) -> u32 {
-        item_at(&self.places, self.at(event, room), NONE)
-    }
-
-    /// Whether the row must be met.
-    fn is_tight(&self, row: u32) -> bool {
-        item_at(&self.tight, row, false)
-    }
-}
+/// The change of nothing.
+const STAY: Change = Change {
+    event: NONE,
+    from: NONE,
+    to: NONE,
+};
 
 impl Rooms {
     /// No meeting has a room.
@@ -125,7 +53,7 @@ impl Rooms {
         let courses = at.model.problem().course_count();
         let size = courses.wrapping_mul(ground.rooms);
         Ok(Rooms {
-            rooms: vec![in alloc; NONE; ground.courses.len()]?,
+            rooms: vec![in alloc; NONE; ground.event_count()]?,
             events: vec![in alloc; NONE; at.model.base_len() as usize]?,
             counts: vec![in alloc; 0; size as usize]?,
             used: 0,
@@ -143,6 +71,7 @@ impl Rooms {
         for number in face.rooms.assignment.chosen.as_slice() {
             if let Some(single) = face.rooms.single(*number) {
                 let room = pattern_of(at.model, single.pattern).room;
+                rooms.add(ground, single.event, room);
                 rooms.put(ground, single.event, room);
             }
         }
@@ -159,19 +88,34 @@ impl Rooms {
         })
     }
 
-    /// Gives the event the room.
-    fn put(&mut self, ground: &Ground, event: u32, room: u32) {
-        put(&mut self.rooms, event, room);
-        let place = ground.place(event, room);
-        if place != NONE {
-            put(&mut self.events, place, event);
-        }
-        self.add(ground, event, room);
+    /// The event's room, or `NONE`.
+    fn room(&self, event: u32) -> u32 {
+        item_at(&self.rooms, event, NONE)
     }
 
-    /// Counts one meeting more of the event's course in the room.
+    /// Gives the event the room, or none where it is none.
+    fn put(&mut self, ground: &Ground, event: u32, room: u32) {
+        put(&mut self.rooms, event, room);
+        if room != NONE {
+            put(&mut self.events, ground.place(event, room), event);
+        }
+    }
+
+    /// Notes that the event is no longer in the room, if it is one.
+    fn leave(&mut self, ground: &Ground, event: u32, room: u32) {
+        if room != NONE {
+            put(&mut self.events, ground.place(event, room), NONE);
+        }
+    }
+
+    /// Counts one meeting more of the event's course in the room, if it is one.
+    #[inline]
     fn add(&mut self, ground: &Ground, event: u32, room: u32) {
-        let at = item_at(&ground.courses, event, 0)
+        if room == NONE {
+            return;
+        }
+        let at = ground
+            .course(event)
             .wrapping_mul(ground.rooms)
             .wrapping_add(room);
         let count = item_at(&self.counts, at, 0);
@@ -181,9 +125,14 @@ impl Rooms {
         put(&mut self.counts, at, count.wrapping_add(1));
     }
 
-    /// Counts one meeting less of the event's course in the room.
+    /// Counts one meeting less of the event's course in the room, if it is one.
+    #[inline]
     fn take(&mut self, ground: &Ground, event: u32, room: u32) {
-        let at = item_at(&ground.courses, event, 0)
+        if room == NONE {
+            return;
+        }
+        let at = ground
+            .course(event)
             .wrapping_mul(ground.rooms)
             .wrapping_add(room);
         let count = item_at(&self.counts, at, 0);
@@ -191,72 +140,6 @@ impl Rooms {
             self.used = self.used.wrapping_sub(1);
         }
         put(&mut self.counts, at, count.wrapping_sub(1));
-    }
-
-    /// The exchange that brings the pair about, unless it leaves out what must be met.
-    fn exchange(&self, ground: &Ground, pair: Pair) -> Option<Exchange> {
-        let old = item_at(&self.rooms, pair.event, NONE);
-        let other = item_at(&self.events, pair.place, NONE);
-        if old == pair.room {
-            return None;
-        }
-        let is_lawful = match (old == NONE, other == NONE) {
-            (true, true) => true,
-            (true, false) => !ground.is_tight(other),
-            (false, true) => !ground.is_tight(ground.place(pair.event, old)),
-            (false, false) => ground.place(other, old) != NONE,
-        };
-        if !is_lawful {
-            return None;
-        }
-        Some(Exchange {
-            event: pair.event,
-            place: pair.place,
-            room: pair.room,
-            old,
-            other,
-        })
-    }
-
-    /// Counts the meetings as the exchange has them.
-    fn count(&mut self, ground: &Ground, exchange: Exchange) {
-        self.add(ground, exchange.event, exchange.room);
-        if exchange.old != NONE {
-            self.take(ground, exchange.event, exchange.old);
-        }
-        if exchange.other != NONE {
-            self.take(ground, exchange.other, exchange.room);
-            if exchange.old != NONE {
-                self.add(ground, exchange.other, exchange.old);
-            }
-        }
-    }
-
-    /// Counts the meetings as they were before the exchange.
-    fn count_back(&mut self, ground: &Ground, exchange: Exchange) {
-        self.take(ground, exchange.event, exchange.room);
-        if exchange.old != NONE {
-            self.add(ground, exchange.event, exchange.old);
-        }
-        if exchange.other != NONE {
-            self.add(ground, exchange.other, exchange.room);
-            if exchange.old != NONE {
-                self.take(ground, exchange.other, exchange.old);
-            }
-        }
-    }
-
-    /// Moves the meetings of the exchange.
-    fn turn(&mut self, ground: &Ground, exchange: Exchange) {
-        if exchange.old != NONE {
-            let left = ground.place(exchange.event, exchange.old);
-            put(&mut self.events, left, exchange.other);
-        }
-        put(&mut self.rooms, exchange.event, exchange.room);
-        put(&mut self.events, exchange.place, exchange.event);
-        if exchange.other != NONE {
-            put(&mut self.rooms, exchange.other, exchange.old);
-        }
     }
 
     /// The choice of these rooms.
@@ -278,9 +161,23 @@ impl Rooms {
     }
 }
 
-/// The best rooms of so many exchanges from these on: those with the fewest pairs of course and room. It ends where
-/// no more than `goal` pairs are used. An exchange that uses no more pairs is made, one that uses one or two more with
-/// odds that fall (simulated annealing: Kirkpatrick, Gelatt and Vecchi, 1983). It fails only where memory runs out.
+/// A walk: the rooms where it stands, and the best that it met.
+#[derive(Drop)]
+struct Walk {
+    rooms: Rooms,
+    best: Rooms,
+    /// The changes that are tried, so many of the list; it has room for one of each event.
+    changes: Vec<Change>,
+    tried: u32,
+    /// The last pseudo-random number.
+    state: u64,
+    /// The odds of what uses one pair of course and room more, in millionths.
+    odds: u64,
+}
+
+/// The best rooms of so many draws from these on, in whole rounds: those with the fewest pairs of course and room. It
+/// ends where no more than `goal` pairs are used. What uses no more pairs is made, what uses one or two more with odds
+/// that fall (simulated annealing: Kirkpatrick, Gelatt and Vecchi, 1983). It fails only where memory runs out.
 pub fn walked(
     alloc: Global,
     ground: &Ground,
@@ -289,67 +186,197 @@ pub fn walked(
     seed: u64,
     goal: u32,
 ) -> Result<Rooms, Memory> {
-    let mut rooms = start.copy(alloc)?;
-    let mut best = start.copy(alloc)?;
-    let mut state = seed;
-    for draw in 0..draws {
-        if best.used <= goal {
+    let mut walk = Walk {
+        rooms: start.copy(alloc)?,
+        best: start.copy(alloc)?,
+        changes: vec![in alloc; STAY; ground.event_count()]?,
+        tried: 0,
+        state: seed,
+        odds: 0,
+    };
+    let rounds = draws / ROUND;
+    for round in 0..rounds {
+        if walk.best.used <= goal {
             break;
         }
-        state = next(state);
-        step(ground, &mut rooms, state, draws.wrapping_sub(draw), draws);
-        if rooms.used < best.used {
-            best = rooms.copy(alloc)?;
-        }
+        walk.odds = odds(rounds - round, rounds);
+        walk.go_round(alloc, ground, goal)?;
     }
-    Ok(best)
+    Ok(walk.best)
+}
+
+/// The odds where so many of the rounds are left: they fall by the square of these.
+fn odds(left: u64, rounds: u64) -> u64 {
+    let all = rounds.wrapping_mul(rounds);
+    left.wrapping_mul(left).wrapping_mul(ODDS) / all.max(1)
 }
 
 /// The next pseudo-random number (xorshift: Marsaglia, 2003).
-pub fn next(state: u64) -> u64 {
+fn next(state: u64) -> u64 {
     let first = state ^ (state << 13);
     let second = first ^ (first >> 7);
     second ^ (second << 17)
 }
 
-/// Draws a pair, and makes its exchange or not.
-fn step(ground: &Ground, rooms: &mut Rooms, state: u64, left: u64, draws: u64) {
-    let pairs = ground.pairs.as_slice();
-    if pairs.is_empty() {
-        return;
+impl Walk {
+    /// Makes the draws of a round, or fewer where the goal is met.
+    fn go_round(&mut self, alloc: Global, ground: &Ground, goal: u32) -> Result<(), Memory> {
+        for _ in 0..ROUND {
+            self.step(ground);
+            if self.rooms.used < self.best.used {
+                self.best = self.rooms.copy(alloc)?;
+            }
+            if self.best.used <= goal {
+                break;
+            }
+        }
+        Ok(())
     }
-    let drawn = (state % pairs.len() as u64) as usize;
-    let Some(pair) = pairs.get(drawn) else {
-        return;
-    };
-    let Some(exchange) = rooms.exchange(ground, *pair) else {
-        return;
-    };
-    let before = rooms.used;
-    rooms.count(ground, exchange);
-    let more = rooms.used.saturating_sub(before);
-    if is_taken(more, left, draws, next(state) % 1_000_000) {
-        rooms.turn(ground, exchange);
-    } else {
-        rooms.count_back(ground, exchange);
+
+    /// Draws a pair and what is tried with it, and makes it or not.
+    fn step(&mut self, ground: &Ground) {
+        self.state = next(self.state);
+        self.tried = 0;
+        let Some(pair) = ground.pair(self.state >> 32) else {
+            return;
+        };
+        if !self.propose(ground, pair) {
+            return;
+        }
+        let before = self.rooms.used;
+        self.count(ground);
+        if self.is_taken(self.rooms.used.saturating_sub(before)) {
+            self.move_out(ground);
+            self.move_in(ground);
+        } else {
+            self.count_back(ground);
+        }
+    }
+
+    /// Notes the changes that are drawn, by the last two bits of the number: the pair's meeting to a room that its
+    /// course has already, the meeting to the pair's room, or all meetings of the course that share its room. False
+    /// where they can't be made.
+    fn propose(&mut self, ground: &Ground, pair: Pair) -> bool {
+        match self.state & 3 {
+            0 => {
+                let room = self.room_of_mate(ground, pair.event);
+                self.exchange(ground, pair.event, room)
+            }
+            1 => self.exchange(ground, pair.event, pair.room),
+            _ => self.exchange_all(ground, pair),
+        }
+    }
+
+    /// The room of an event of the event's course that is drawn, or `NONE`.
+    fn room_of_mate(&self, ground: &Ground, event: u32) -> u32 {
+        let mates = ground.mates(event);
+        let drawn = (self.state >> 2) & 0xffff;
+        let at = drawn.wrapping_mul(mates.len() as u64) >> 16;
+        match mates.get(at as usize) {
+            Some(mate) => self.rooms.room(*mate),
+            None => NONE,
+        }
+    }
+
+    /// Notes that the event gets the room, and who is there the event's; false where it has that room already, or
+    /// what must be met would be left out.
+    fn exchange(&mut self, ground: &Ground, event: u32, room: u32) -> bool {
+        let old = self.rooms.room(event);
+        if room == NONE || room == old {
+            return false;
+        }
+        let place = ground.place(event, room);
+        let other = item_at(&self.rooms.events, place, NONE);
+        if place == NONE || !is_lawful(ground, event, old, other) {
+            return false;
+        }
+        self.note(event, old, room);
+        if other != NONE {
+            self.note(other, room, old);
+        }
+        true
+    }
+
+    /// Notes that all events of the course that are where the pair's is get the pair's room.
+    fn exchange_all(&mut self, ground: &Ground, pair: Pair) -> bool {
+        let old = self.rooms.room(pair.event);
+        if old == NONE {
+            return self.exchange(ground, pair.event, pair.room);
+        }
+        for mate in ground.mates(pair.event) {
+            let is_there = self.rooms.room(*mate) == old;
+            if is_there && !self.exchange(ground, *mate, pair.room) {
+                return false;
+            }
+        }
+        true
+    }
+
+    /// Notes the change.
+    fn note(&mut self, event: u32, from: u32, to: u32) {
+        put(&mut self.changes, self.tried, Change { event, from, to });
+        self.tried = self.tried.wrapping_add(1);
+    }
+
+    /// The change of this number.
+    fn change(&self, number: u32) -> Change {
+        item_at(&self.changes, number, STAY)
+    }
+
+    /// Counts the meetings as they are behind the changes.
+    fn count(&mut self, ground: &Ground) {
+        for number in 0..self.tried {
+            let change = self.change(number);
+            self.rooms.add(ground, change.event, change.to);
+            self.rooms.take(ground, change.event, change.from);
+        }
+    }
+
+    /// Counts the meetings as they were before the changes.
+    fn count_back(&mut self, ground: &Ground) {
+        for number in 0..self.tried {
+            let change = self.change(number);
+            self.rooms.add(ground, change.event, change.from);
+            self.rooms.take(ground, change.event, change.to);
+        }
+    }
+
+    /// Moves the meetings of the changes out of their rooms.
+    fn move_out(&mut self, ground: &Ground) {
+        for number in 0..self.tried {
+            let change = self.change(number);
+            self.rooms.leave(ground, change.event, change.from);
+        }
+    }
+
+    /// Moves the meetings of the changes into their new rooms.
+    fn move_in(&mut self, ground: &Ground) {
+        for number in 0..self.tried {
+            let change = self.change(number);
+            self.rooms.put(ground, change.event, change.to);
+        }
+    }
+
+    /// Whether changes are made that use so many pairs more: where it is one or two, by the next number.
+    fn is_taken(&mut self, more: u32) -> bool {
+        let odds = match more {
+            0 => return true,
+            1 => self.odds,
+            2 => self.odds.wrapping_mul(self.odds) / 1_000_000,
+            _ => return false,
+        };
+        self.state = next(self.state);
+        let drawn = (self.state >> 32).wrapping_mul(1_000_000) >> 32;
+        drawn < odds
     }
 }
 
-/// Whether an exchange is made that uses so many pairs more, at a drawn number below 1,000,000.
-fn is_taken(more: u32, left: u64, draws: u64, drawn: u64) -> bool {
-    let odds = odds(left, draws);
-    match more {
-        0 => true,
-        1 => drawn < odds,
-        2 => drawn < odds.wrapping_mul(odds) / 1_000_000,
-        _ => false,
+/// Whether the event may leave its room, and the other one get it; `NONE` stands for no room, and no other event.
+fn is_lawful(ground: &Ground, event: u32, old: u32, other: u32) -> bool {
+    match (old == NONE, other == NONE) {
+        (true, true) => true,
+        (true, false) => !ground.is_tight(other),
+        (false, true) => !ground.is_tight(ground.place(event, old)),
+        (false, false) => ground.place(other, old) != NONE,
     }
-}
-
-/// The odds of an exchange that uses one pair more, in millionths: 400,000 at first, and falling by the square of
-/// the draws that are left.
-fn odds(left: u64, draws: u64) -> u64 {
-    let part = left.wrapping_mul(1_000);
-    let share = part / draws.max(1);
-    share.wrapping_mul(share).wrapping_mul(400_000) / 1_000_000
 }
